@@ -1,0 +1,4 @@
+pub mod Laws
+pub mod Stops
+pub mod Whole
+pub mod Depth
