@@ -1,0 +1,5 @@
+pub mod TypeRefs
+pub mod Shapes
+pub mod SameType
+pub mod ConstValues
+pub mod SameValue

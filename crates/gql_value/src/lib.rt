@@ -1,0 +1,10 @@
+//! Type references and constant values of GraphQL.
+#![tactic(auto)]
+
+mod const_value;
+#[cfg(test)]
+mod leaf_tests;
+mod type_ref;
+
+pub use const_value::ConstValue;
+pub use type_ref::TypeRef;
