@@ -1,0 +1,5 @@
+pub mod TokenSorts
+pub mod Loops
+pub mod StringTexts
+pub mod Places
+pub mod Clauses

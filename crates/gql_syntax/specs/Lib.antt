@@ -1,0 +1,10 @@
+pub mod Sorts
+pub mod Reads
+pub mod Cursor
+pub mod Types
+pub mod Values
+pub mod Grammar
+pub mod Lawful
+pub mod DepthLawful
+pub mod GrammarLawful
+pub mod Documents

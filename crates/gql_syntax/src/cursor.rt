@@ -1,0 +1,280 @@
+//! A cursor over the tokens of a text.
+
+ghost use Rattle.std.specs.Prelude.{◌≡◌, ◌∷◌, [], ◌++◌, true, false, Ok, Err, option_map, IfOk};
+ghost use Rattle.gql_grammar.specs.Form.{among, starts, one, one_at, opt_read, refused_at, place, only_end};
+ghost use Rattle.gql_lexer.specs.Forms.{IsName};
+ghost use Rattle.gql_lexer.specs.Tokens.{lexeme_of};
+ghost use Rattle.gql_syntax.specs.Cursor.{terminals, left_by, Fits, AllFit, FitsSort};
+ghost use Rattle.gql_syntax.specs.Reads.{Fails, ReadsTerminal, terminal, one_if};
+ghost use Rattle.gql_syntax.specs.Sorts as sorts;
+
+use crate::sort::{Sort, sort_of};
+use crate::stopped::Stopped;
+use gql_lexer::Token;
+use std::marker::Model;
+
+/// A token with its sort, or what stands behind the tokens.
+#[derive(Clone, Copy, Debug)]
+pub struct Terminal<'t> {
+    pub sort: Sort,
+    pub text: &'t str,
+    pub at: usize,
+}
+
+/// The terminals that are left: the next one, the tokens behind it, and the end behind these.
+#[derive(Drop)]
+pub struct Cursor<'t> {
+    here: Terminal<'t>,
+    rest: &'t [Token<'t>],
+    end: Terminal<'t>,
+}
+
+impl<'t> Model for Cursor<'t> {
+    ghost use Rattle.std.specs.Prelude.{List};
+    ghost use Rattle.std.specs.Coded.{coded_list};
+    ghost use Rattle.gql_grammar.specs.Form.{Terminal};
+    ghost use Rattle.gql_syntax.specs.Cursor.{terminal_code, left_of, IsReady};
+
+    ghost Value = { List Terminal };
+
+    ghost coded = { coded_list terminal_code };
+
+    ghost view = { left_of };
+
+    ghost invariant = { IsReady };
+}
+
+/// A token with its sort.
+fn sorted<'t>(token: &Token<'t>) -> Terminal<'t>
+    requires { Fits token.now.kind token.now.text.now }
+    ensures terminal { terminal result ≡ sorts.terminal_of (lexeme_of token.now) }
+    ensures fits { FitsSort result }
+    ensures proper { among (sorts.code result.sort) sorts.ends ≡ false }
+{
+    Terminal {
+        sort: sort_of(token.kind, token.text),
+        text: token.text,
+        at: token.at,
+    }
+}
+
+/// The first of the tokens, and the others; or the end.
+fn next<'t>(tokens: &'t [Token<'t>], end: Terminal<'t>) -> (Terminal<'t>, &'t [Token<'t>])
+    requires tokens { AllFit tokens.now }
+    requires end { among (sorts.code end.sort) sorts.ends ≡ true }
+    ensures here { FitsSort result.0 }
+    ensures rest { AllFit result.1.now }
+    ensures all { left_by result.0 result.1.now end.entry ≡ terminals tokens.now ++ terminal end.entry ∷ [] }
+{
+    match tokens {
+        [] => (end, tokens),
+        [first, rest @ ..] => (sorted(first), rest),
+    }
+}
+
+impl<'t> Cursor<'t> {
+    /// A cursor before the first of the tokens.
+    pub fn new(tokens: &'t [Token<'t>], end: Terminal<'t>) -> Cursor<'t>
+        requires tokens { AllFit tokens.now }
+        requires end { among (sorts.code end.sort) sorts.ends ≡ true }
+        ensures { result ≡ terminals tokens.now ++ terminal end.entry ∷ [] }
+    {
+        let (here, rest) = next(tokens, end);
+        Cursor { here, rest, end }
+    }
+
+    fn take(&mut self) -> Terminal<'t>
+        requires { starts sorts.ends self.old ≡ false }
+        ensures next { self.old ≡ terminal result ∷ self.new }
+        ensures fits { FitsSort result }
+    {
+        let taken = self.here;
+        match self.rest {
+            [] => self.here = self.end,
+            [first, rest @ ..] => {
+                self.here = sorted(first);
+                self.rest = rest;
+            }
+        }
+        taken
+    }
+
+    /// Takes the next terminal, where it is to be taken.
+    fn take_if(&mut self, there: bool) -> Result<Terminal<'t>, Stopped>
+        requires { there ≡ true → starts sorts.ends self.old ≡ false }
+        ensures reads { ReadsTerminal (one_if there self.old) result self.new }
+        ensures fits { IfOk result FitsSort }
+    {
+        if there {
+            Ok(self.take())
+        } else {
+            Err(Stopped::Syntax(self.here.at))
+        }
+    }
+
+    /// The place of the next terminal.
+    pub fn at(&self) -> usize
+        ensures { result ≡ place self.now }
+    {
+        self.here.at
+    }
+
+    /// Whether only the end of the text is left.
+    pub fn is_done(&self) -> bool
+        ensures { result ≡ only_end self.now }
+    {
+        matches!(self.here.sort, Sort::End)
+    }
+
+    pub fn sees(&self, sort: Sort) -> bool
+        ensures { result ≡ starts (sorts.code sort ∷ []) self.now }
+    {
+        self.here.sort.is(sort)
+    }
+
+    pub fn sees_name(&self) -> bool
+        ensures { result ≡ starts sorts.names self.now }
+    {
+        self.here.sort.is_name()
+    }
+
+    pub fn sees_string(&self) -> bool
+        ensures { result ≡ starts sorts.strings self.now }
+    {
+        self.here.sort.is_string()
+    }
+
+    /// Whether a value of one token is next.
+    pub fn sees_leaf(&self) -> bool
+        ensures { result ≡ starts sorts.leaves self.now }
+    {
+        self.here.sort.is_leaf()
+    }
+
+    pub fn sees_refused_number(&self) -> bool
+        ensures { result ≡ starts sorts.refused_numbers self.now }
+    {
+        self.here.sort.is_refused_number()
+    }
+
+    /// Whether a value begins here.
+    pub fn sees_value(&self) -> bool
+        ensures { result ≡ starts sorts.values self.now }
+    {
+        self.here.sort.is_value()
+    }
+
+    /// Whether a field or an argument begins here.
+    pub fn sees_member(&self) -> bool
+        ensures { result ≡ starts sorts.members self.now }
+    {
+        self.here.sort.is_member()
+    }
+
+    /// Whether an enum value's definition begins here.
+    pub fn sees_enum_member(&self) -> bool
+        ensures { result ≡ starts sorts.enum_members self.now }
+    {
+        self.here.sort.is_enum_member()
+    }
+
+    pub fn sees_operation(&self) -> bool
+        ensures { result ≡ starts sorts.operations self.now }
+    {
+        self.here.sort.is_operation()
+    }
+
+    /// Whether a definition begins here.
+    pub fn sees_definition(&self) -> bool
+        ensures { result ≡ starts sorts.definitions self.now }
+    {
+        self.here.sort.is_definition()
+    }
+
+    /// Takes the next terminal, where it is of this sort.
+    pub fn expect(&mut self, sort: Sort) -> Result<Terminal<'t>, Stopped>
+        requires { among (sorts.code sort) sorts.ends ≡ false }
+        ensures reads { ReadsTerminal (one_at (sorts.code sort ∷ []) self.old) result self.new }
+        ensures fits { IfOk result FitsSort }
+    {
+        self.take_if(self.here.sort.is(sort))
+    }
+
+    pub fn name(&mut self) -> Result<Terminal<'t>, Stopped>
+        ensures reads { ReadsTerminal (one_at sorts.names self.old) result self.new }
+        ensures name { IfOk result (λ t. IsName t.text.now) }
+    {
+        self.take_if(self.here.sort.is_name())
+    }
+
+    pub fn enum_name(&mut self) -> Result<Terminal<'t>, Stopped>
+        ensures reads { ReadsTerminal (one_at sorts.enum_names self.old) result self.new }
+        ensures name { IfOk result (λ t. IsName t.text.now) }
+    {
+        self.take_if(self.here.sort.is_enum_name())
+    }
+
+    pub fn location(&mut self) -> Result<Terminal<'t>, Stopped>
+        ensures reads { ReadsTerminal (one_at (sorts.location ∷ []) self.old) result self.new }
+        ensures name { IfOk result (λ t. IsName t.text.now) }
+    {
+        self.take_if(self.here.sort.is(Sort::Location))
+    }
+
+    pub fn string(&mut self) -> Result<Terminal<'t>, Stopped>
+        ensures { ReadsTerminal (one_at sorts.strings self.old) result self.new }
+    {
+        self.take_if(self.here.sort.is_string())
+    }
+
+    pub fn operation(&mut self) -> Result<Terminal<'t>, Stopped>
+        ensures { ReadsTerminal (one_at sorts.operations self.old) result self.new }
+    {
+        self.take_if(self.here.sort.is_operation())
+    }
+
+    /// A terminal of this sort, if it is the next one.
+    pub fn optional(&mut self, sort: Sort) -> Option<Terminal<'t>>
+        requires { among (sorts.code sort) sorts.ends ≡ false }
+        ensures { opt_read (sorts.code sort ∷ []) (one_at (sorts.code sort ∷ [])) self.old ≡ Ok (option_map terminal result, self.new) }
+    {
+        if self.sees(sort) {
+            Some(self.take())
+        } else {
+            None
+        }
+    }
+
+    /// Why nothing is read here, where a limit refuses this sort.
+    pub fn refused(&self, sort: Sort) -> Stopped
+        ensures { Fails (refused_at {A = Unit {0}} (sorts.code sort ∷ []) self.now) result }
+    {
+        if self.here.sort.is(sort) {
+            Stopped::Refused(self.here.sort, self.here.at)
+        } else {
+            Stopped::Syntax(self.here.at)
+        }
+    }
+
+    /// Why nothing is read here, where a limit refuses a list or an object.
+    pub fn refused_nest(&self) -> Stopped
+        ensures { Fails (refused_at {A = Unit {0}} sorts.nests self.now) result }
+    {
+        if self.here.sort.is_nest() {
+            Stopped::Refused(self.here.sort, self.here.at)
+        } else {
+            Stopped::Syntax(self.here.at)
+        }
+    }
+
+    /// Why nothing is read here, where a limit refuses a number.
+    pub fn refused_number(&self) -> Stopped
+        ensures { Fails (refused_at {A = Unit {0}} sorts.refused_numbers self.now) result }
+    {
+        if self.here.sort.is_refused_number() {
+            Stopped::Refused(self.here.sort, self.here.at)
+        } else {
+            Stopped::Syntax(self.here.at)
+        }
+    }
+}

@@ -1,0 +1,9 @@
+use Rattle.std.proofs.Common.{◌≡◌, take}
+use Rattle.std.specs.Prelude.{flat_map}
+use Rattle.gql_text.specs.Faults.{first_after}
+use Rattle.gql_text.specs.Owners.{use_faults}
+use Rattle.gql_text.proofs.owner_uses.check_each_use.Given as goal
+
+-- the first so far
+abbrev pub invariant-loop-one : goal.invariant-loop-one
+invariant-loop-one l = l.first ≡ first_after l.initial.first (flat_map (use_faults l.owner) (take l.one-index l.uses))
