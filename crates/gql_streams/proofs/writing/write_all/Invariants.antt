@@ -1,0 +1,16 @@
+use Rattle.std.proofs.Common.{length, ◌-◌, ◌≤◌, take}
+use Rattle.std.specs.Io.KnownBytes.{Appends}
+use Rattle.gql_streams.proofs.writing.write_all.Given as goal
+
+-- the sink got what is done
+abbrev pub invariant-loop-done : goal.invariant-loop-done
+invariant-loop-done g l =
+    let sink = g.K.Sink in
+    record {
+      within : l.done ≤ length l.text;
+      given : Appends (sink.written l.fn.output) (sink.written l.output) (take l.done l.text);
+      later : sink.faults l.fn.output ≤ sink.faults l.output;
+    }
+
+abbrev pub decreases-loop-done : goal.decreases-loop-done
+decreases-loop-done g l = length l.text - l.done
