@@ -1,0 +1,182 @@
+#!/usr/bin/env python3
+"""Times the program on documents of 1, 4 and 16 MiB, on wide ones, and on hostile inputs.
+
+Run it at the top of the repository, after the program was built by `./gqlsdl </dev/null`:
+
+    python3 bench/run.py
+
+For each document it prints the seconds of the best of three runs, MB/s, the peak memory, the seconds of `cat` over the
+same bytes, and behind the 16 MiB the ratio of its time to that of the 4 MiB, which stays near 4 where the time is
+linear. For each wide document it prints the seconds of one half as wide as well.
+It needs nothing but Python 3 and writes nothing but a temporary folder.
+"""
+
+import os
+import subprocess
+import sys
+import tempfile
+import time
+
+TOP = os.path.dirname(os.path.dirname(os.path.abspath(__file__)))
+PROGRAM = os.path.join(TOP, "crates", "gqlsdl", "out", "gqlsdl")
+MIB = 1 << 20
+HEAD = "schema{query:Query} type Query{v:Int}\n"
+
+# one service's worth of definitions: it is read whole, and then answered with `not yet supported`
+SERVICE = '''
+"""
+A customer of the shop, with all that the shop keeps of one.
+"""
+type Customer{0} implements Node{0} & Named @key(fields: "id") {{
+  "the number of the customer"
+  id: ID!
+  name: String! @deprecated(reason: "use `fullName`")
+  fullName(style: NameStyle{0} = SHORT): String!
+  """
+  Orders, newest first. The first page has at most `first` of them.
+  """
+  orders(first: Int = 20, after: String, states: [OrderState{0}!] = [OPEN, PAID]): [Order{0}!]!
+  address(kind: AddressKind{0}): Address
+  favourites(filter: FavouriteFilter{0} = {{since: "2020-01-01", limit: 5}}): [Favourite{0}]
+  balance(currency: Currency = EUR): Money! @cost(weight: 3)
+  notes: [String!] @auth(roles: ["admin", "support"])
+}}
+
+interface Node{0} {{
+  "the number"
+  id: ID!
+}}
+
+enum OrderState{0} {{ OPEN PAID SENT "taken back" RETURNED @deprecated }}
+
+union Favourite{0} = Customer{0} | Order{0}
+
+input FavouriteFilter{0} {{
+  since: String = "2019-01-01"
+  limit: Int! = 10 @range(min: 1, max: 100)
+  names: [String!]
+}}
+'''
+
+
+def filled(path, head, line, tail, size):
+    """Writes a text of at most `size` bytes: the head, as many numbered lines as there is room for, and the tail."""
+    room, number = size - len(head) - len(tail), 0
+    with open(path, "w", encoding="utf-8") as file:
+        file.write(head)
+        while True:
+            piece = line.format(number)
+            if len(piece) > room:
+                break
+            file.write(piece)
+            room -= len(piece)
+            number += 1
+        file.write(tail)
+
+
+SHAPES = {
+    "scalars": (HEAD, "scalar S{0}\n", ""),
+    "objects": (HEAD, "type T{0} {{ id: ID! name: String next: [T{0}!]! }}\n", ""),
+    "one object": ("schema{query:Query} type Query{\n", "  field{0}: [Int!]!\n", "}\n"),
+    "services": (HEAD, SERVICE, ""),
+}
+
+# the front, one numbered line, how often it stands, and the end
+WIDE = {
+    "100,000 fields in a type": ("type Query{\n", "  field{0}(a: Int): [Int!]!\n", 100_000, "}\n"),
+    "100,000 types": ("type Query{v:Int}\n", "type T{0} @a {{ v: Int }}\n", 100_000, ""),
+    "200,000 enum values": ("type Query{v:Int}\nenum E{\n", "  VALUE{0}\n", 200_000, "}\n"),
+    "100,000 arguments": ("type Query{v(\n", "  a{0}: Int = 1\n", 100_000, "):Int}\n"),
+    "100,000 union members": ("type Query{v:Int}\nunion U =\n", "  | T{0}\n", 100_000, ""),
+}
+
+# the front, one part, how often it stands, and the status that is wanted
+HOSTILE = {
+    "the empty input": (b"", b"", 0, 1),
+    "bytes that are no UTF-8": (b"scalar A\xff", b"", 0, 1),
+    "100,000 opening brackets": (b"schema{query:Query} type Query{v:", b"[", 100_000, 1),
+    "16 MiB of {": (b"", b"{", 16 * MIB, 1),
+    "a name of 16 MiB": (b"", b"a", 16 * MIB, 1),
+    "16 MiB of names": (b"", b"a ", 8 * MIB, 1),
+    "16 MiB of [": (b"", b"[", 16 * MIB, 1),
+    '16 MiB of "': (b"", b'"', 16 * MIB, 1),
+    "16 MiB of @a": (b"type Query", b"@a", 8 * MIB - 5, 1),
+    "a string of 16 MiB": (b'"', b"a", 16 * MIB - 1, 1),
+    "a block string of 16 MiB": (b'"""', b"  a\n", 4 * MIB - 1, 1),
+    "a comment of 16 MiB": (b"#", b"a", 16 * MIB - 1, 1),
+    "16 MiB and a byte": (b"", b" ", 16 * MIB + 1, 6),
+}
+
+
+def run(command, path, folder):
+    """The status, the seconds and the peak memory in MiB of one run over a file."""
+    with open(path, "rb") as source, open(os.path.join(folder, "out"), "wb") as target:
+        begun = time.perf_counter()
+        child = subprocess.Popen(command, stdin=source, stdout=target, stderr=subprocess.DEVNULL)
+        _, status, usage = os.wait4(child.pid, 0)
+        seconds = time.perf_counter() - begun
+    return os.waitstatus_to_exitcode(status), seconds, usage.ru_maxrss / 1024
+
+
+def best(command, path, folder):
+    runs = [run(command, path, folder) for _ in range(3)]
+    return runs[0][0], min(r[1] for r in runs), max(r[2] for r in runs)
+
+
+def shapes(folder):
+    print(f"{'document':<12}{'MiB':>5}{'status':>8}{'seconds':>10}{'MB/s':>8}{'peak MiB':>10}{'cat':>9}{'16 to 4':>9}")
+    path = os.path.join(folder, "in")
+    for name, (head, line, tail) in SHAPES.items():
+        earlier = {}
+        for size in (1, 4, 16):
+            filled(path, head, line, tail, size * MIB)
+            status, seconds, peak = best([PROGRAM], path, folder)
+            _, floor, _ = best(["cat"], path, folder)
+            earlier[size] = seconds
+            ratio = f"{seconds / earlier[4]:>9.2f}" if size == 16 else ""
+            speed = os.path.getsize(path) / 1e6 / seconds
+            print(f"{name:<12}{size:>5}{status:>8}{seconds:>10.3f}{speed:>8.1f}{peak:>10.1f}{floor:>9.4f}{ratio}")
+
+
+def wide(folder):
+    print(f"\n{'wide document':<28}{'status':>8}{'seconds':>10}{'peak MiB':>10}{'half as wide':>14}")
+    path = os.path.join(folder, "in")
+    for name, (front, line, count, end) in WIDE.items():
+        times = []
+        for part in (count // 2, count):
+            with open(path, "w", encoding="utf-8") as file:
+                file.write(front)
+                file.writelines(line.format(number) for number in range(part))
+                file.write(end)
+            status, seconds, peak = best([PROGRAM], path, folder)
+            times.append(seconds)
+        print(f"{name:<28}{status:>8}{times[1]:>10.3f}{peak:>10.1f}{times[0]:>14.3f}")
+
+
+def hostile(folder):
+    print(f"\n{'hostile input':<28}{'status':>8}{'seconds':>10}{'peak MiB':>10}")
+    path, good = os.path.join(folder, "in"), True
+    for name, (front, part, count, want) in HOSTILE.items():
+        with open(path, "wb") as file:
+            file.write(front)
+            for _ in range(count // 1024):
+                file.write(part * 1024)
+            file.write(part * (count % 1024))
+        status, seconds, peak = run([PROGRAM], path, folder)
+        good = good and status == want
+        note = "" if status == want else f"  (status {want} is wanted)"
+        print(f"{name:<28}{status:>8}{seconds:>10.3f}{peak:>10.1f}{note}")
+    return good
+
+
+def main():
+    if not os.access(PROGRAM, os.X_OK):
+        sys.exit("the program is not built: run ./gqlsdl </dev/null first")
+    with tempfile.TemporaryDirectory() as folder:
+        shapes(folder)
+        wide(folder)
+        if not hostile(folder):
+            sys.exit(1)
+
+
+main()

@@ -1,0 +1,79 @@
+-- What is known at a trouble, and the line that is told.
+use Rattle.std.proofs.Common.{arith, List, ℕ, String, refl}
+use Rattle.std.specs.Prelude.{Option}
+use Rattle.std.specs.Io.KnownBytes.{Keeps}
+use Rattle.std.specs.declared.alloc.Global.{Global}
+use Rattle.gql_streams.specs.Reading.{ReadsAll}
+use Rattle.gql_publish.specs.Endings.{IsLine}
+use Rattle.gql_publish.specs.Troubles.{IsTroubleWith, Explains, status_of, trouble_line}
+use Rattle.gql_publish.specs.declared.program.Trouble.{Trouble}
+use Rattle.gql_publish.specs.declared.program.Trouble.TheVariants as trouble
+
+-- a trouble with bytes that were read to their end
+pub explains : (words : List (String Global)) (left left' : Option (List ℕ)) (reads reads' : ℕ) (written : Option (List ℕ)) (writes : ℕ) (bytes : List ℕ) (t : Trouble)
+    → ReadsAll left left' bytes → Keeps written written → IsTroubleWith bytes t → Explains words left left' reads reads' written written writes writes t
+explains words left left' reads reads' written writes bytes (trouble.Refused line) read keeps h =
+    (h.0, record { input = bytes; read = read; invalid = h.1; only = h.2 }, h.3, keeps)
+explains words left left' reads reads' written writes bytes trouble.OutOfMemory read keeps h = keeps
+explains words left left' reads reads' written writes bytes trouble.BadWords read keeps h = absurd h
+explains words left left' reads reads' written writes bytes trouble.ReadFault read keeps h = absurd h
+explains words left left' reads reads' written writes bytes trouble.WriteFault read keeps h = absurd h
+explains words left left' reads reads' written writes bytes trouble.TooLong read keeps h = absurd h
+
+-- the line of a trouble is that of its status
+pub told_by : (words : List (String Global)) (left left' : Option (List ℕ)) (reads reads' : ℕ) (written written' : Option (List ℕ)) (writes writes' : ℕ) (t : Trouble)
+    → Explains words left left' reads reads' written written' writes writes' t → IsLine left left' (status_of t) (trouble_line t)
+told_by words left left' reads reads' written written' writes writes' (trouble.Refused line) h = record {
+  done = λ e. absurd (omega (arith, e));
+  refused = λ e. (h.0, h.1, h.2);
+  bad_words = λ e. absurd (omega (arith, e));
+  read_fault = λ e. absurd (omega (arith, e));
+  write_fault = λ e. absurd (omega (arith, e));
+  out_of_memory = λ e. absurd (omega (arith, e));
+  too_long = λ e. absurd (omega (arith, e));
+}
+told_by words left left' reads reads' written written' writes writes' trouble.BadWords h = record {
+  done = λ e. absurd (omega (arith, e));
+  refused = λ e. absurd (omega (arith, e));
+  bad_words = λ e. refl;
+  read_fault = λ e. absurd (omega (arith, e));
+  write_fault = λ e. absurd (omega (arith, e));
+  out_of_memory = λ e. absurd (omega (arith, e));
+  too_long = λ e. absurd (omega (arith, e));
+}
+told_by words left left' reads reads' written written' writes writes' trouble.ReadFault h = record {
+  done = λ e. absurd (omega (arith, e));
+  refused = λ e. absurd (omega (arith, e));
+  bad_words = λ e. absurd (omega (arith, e));
+  read_fault = λ e. refl;
+  write_fault = λ e. absurd (omega (arith, e));
+  out_of_memory = λ e. absurd (omega (arith, e));
+  too_long = λ e. absurd (omega (arith, e));
+}
+told_by words left left' reads reads' written written' writes writes' trouble.WriteFault h = record {
+  done = λ e. absurd (omega (arith, e));
+  refused = λ e. absurd (omega (arith, e));
+  bad_words = λ e. absurd (omega (arith, e));
+  read_fault = λ e. absurd (omega (arith, e));
+  write_fault = λ e. refl;
+  out_of_memory = λ e. absurd (omega (arith, e));
+  too_long = λ e. absurd (omega (arith, e));
+}
+told_by words left left' reads reads' written written' writes writes' trouble.OutOfMemory h = record {
+  done = λ e. absurd (omega (arith, e));
+  refused = λ e. absurd (omega (arith, e));
+  bad_words = λ e. absurd (omega (arith, e));
+  read_fault = λ e. absurd (omega (arith, e));
+  write_fault = λ e. absurd (omega (arith, e));
+  out_of_memory = λ e. refl;
+  too_long = λ e. absurd (omega (arith, e));
+}
+told_by words left left' reads reads' written written' writes writes' trouble.TooLong h = record {
+  done = λ e. absurd (omega (arith, e));
+  refused = λ e. absurd (omega (arith, e));
+  bad_words = λ e. absurd (omega (arith, e));
+  read_fault = λ e. absurd (omega (arith, e));
+  write_fault = λ e. absurd (omega (arith, e));
+  out_of_memory = λ e. absurd (omega (arith, e));
+  too_long = λ e. refl;
+}

@@ -1,0 +1,7 @@
+use Rattle.std.proofs.Common.{◌∙◌, ap}
+use Rattle.gql_publish.specs.Names.{is_among}
+use Rattle.gql_publish.proofs.NameLists.{texts_have}
+use Rattle.gql_publish.proofs.names.Names.has.Goals as goal
+
+pub returns : goal.returns
+returns c = c.contains.ensures ∙ texts_have c.args.name.now c.self.inside.met.keys ∙ ap (is_among c.args.name.now) c.self.view_is

@@ -1,0 +1,11 @@
+pub mod Names
+pub mod Plain
+pub mod Rules
+pub mod View
+pub mod Spelling
+pub mod Answers
+pub mod Verdict
+pub mod Errors
+pub mod Outcome
+pub mod Endings
+pub mod Troubles

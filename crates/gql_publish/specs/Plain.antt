@@ -1,0 +1,85 @@
+-- Plain documents: at most a schema block with a query line, scalars without decoration, and objects whose fields are a
+-- name and a type. Sections 3.3, 3.5 and 3.6 of the GraphQL specification, October 2021.
+use Rattle.std.specs.Prelude.{Bool, true, false, not, ◌&&◌, ◌||◌, List, [], ◌∷◌, is_none, codes, nat_eq}
+use Rattle.std.specs.List.{list_all, list_any, flat_map, starts_with}
+use Rattle.std.specs.Str.{bytes_eq}
+use Rattle.gql_registry.specs.Parts.{Text}
+use Rattle.gql_publish.specs.Names.{is_among, are_distinct}
+use Rattle.gql_text.specs.declared.document.Definition.{Definition}
+use Rattle.gql_text.specs.declared.document.Definition.TheVariants.{SchemaBlock, Scalar, Object}
+use Rattle.gql_syntax.specs.declared.operation.OperationType.TheVariants.{Query}
+use Rattle.gql_syntax.specs.declared.operation.OperationType.{OperationType}
+use Rattle.gql_text.specs.declared.document.RootLine.{RootLine}
+use Rattle.gql_text.specs.declared.document.TypeHead.{TypeHead}
+use Rattle.gql_text.specs.declared.document.FieldDef.{FieldDef}
+
+abbrev pub is_empty : {X : Type 0} → List X → Bool
+is_empty [] = true
+is_empty (x ∷ xs) = false
+
+-- names that begin with two underscores are the standard's own: section 2.1.9
+abbrev pub is_reserved : Text → Bool
+is_reserved name = starts_with nat_eq name (codes "__")
+
+-- the name of the type that a definition defines
+abbrev pub type_names_of : Definition → List Text
+type_names_of (Scalar head) = head.name ∷ []
+type_names_of (Object head implements fields) = head.name ∷ []
+type_names_of _ = []
+
+abbrev pub type_names : List Definition → List Text
+type_names definitions = flat_map type_names_of definitions
+
+abbrev pub field_names_of : FieldDef → List Text
+field_names_of field = field.name ∷ []
+
+abbrev pub field_names : List FieldDef → List Text
+field_names fields = flat_map field_names_of fields
+
+abbrev pub is_query : OperationType → Bool
+is_query Query = true
+is_query _ = false
+
+-- neither a description nor a use of a directive, and not the name of the upload scalar
+abbrev pub is_bare : TypeHead → Bool
+is_bare head = is_none head.description && is_empty head.uses && not (bytes_eq head.name (codes "Upload"))
+
+-- a name that is not reserved, and a type, alone
+abbrev pub is_plain_field : FieldDef → Bool
+is_plain_field field = is_none field.description && is_empty field.args && is_empty field.uses && not (is_reserved field.name)
+
+-- the one line `query: Name`
+abbrev pub is_query_line : List RootLine → Bool
+is_query_line (root ∷ []) = is_query root.kind
+is_query_line _ = false
+
+abbrev pub is_plain_definition : Definition → Bool
+is_plain_definition (SchemaBlock roots at) = is_query_line roots
+is_plain_definition (Scalar head) = is_bare head
+is_plain_definition (Object head implements fields) =
+    is_bare head && is_empty implements && list_all is_plain_field fields && are_distinct (field_names fields)
+is_plain_definition _ = false
+
+abbrev pub is_schema_block : Definition → Bool
+is_schema_block (SchemaBlock roots at) = true
+is_schema_block _ = false
+
+-- without a schema block, a type `Mutation` or `Subscription` would be a root too: section 3.3.1
+abbrev pub has_only_query : List Definition → Bool
+has_only_query definitions = list_any is_schema_block definitions
+    || (not (is_among (codes "Mutation") (type_names definitions)) && not (is_among (codes "Subscription") (type_names definitions)))
+
+-- plain definitions, whose only root is that of queries, and of which no two define one type
+abbrev pub are_plain : List Definition → Bool
+are_plain definitions = list_all is_plain_definition definitions && are_distinct (type_names definitions) && has_only_query definitions
+
+-- the name in the first line of a schema block
+abbrev pub first_root : List RootLine → Text
+first_root [] = []
+first_root (root ∷ roots) = root.name
+
+-- the name of the query root: that of the first schema block, or else `Query`
+abbrev pub query_of : List Definition → Text
+query_of [] = codes "Query"
+query_of (SchemaBlock roots at ∷ definitions) = first_root roots
+query_of (_ ∷ definitions) = query_of definitions

@@ -1,0 +1,97 @@
+-- The rules of a schema: section 3 of the GraphQL specification, October 2021. The answer is the first broken rule, in
+-- the order of the groups and, within a group, in the order of the definitions.
+use Rattle.std.specs.Prelude.{Bool, true, false, not, ◌&&◌, ◌||◌, List, [], ◌∷◌, Option, Some, None, codes}
+use Rattle.std.specs.List.{list_any}
+use Rattle.std.specs.Str.{bytes_eq}
+use Rattle.gql_registry.specs.Parts.{Text}
+use Rattle.gql_text.specs.declared.document.Definition.{Definition}
+use Rattle.gql_text.specs.declared.document.Definition.TheVariants.{Scalar, Object}
+use Rattle.gql_text.specs.declared.document.FieldDef.{FieldDef}
+use Rattle.gql_publish.specs.Names.{is_among}
+use Rattle.gql_publish.specs.Plain.{is_empty, type_names}
+use Rattle.gql_value.specs.TypeRefs.{reference, innermost}
+
+-- a broken rule, with the names that it tells
+pub data Fault : Type 0 where
+  already_exists : (name : Text) → Fault
+  not_found : (name : Text) → Fault
+  query_root : Fault
+  empty_object : (ty : Text) → Fault
+
+-- ---- the first of several tests
+
+-- a fault where the test holds
+abbrev pub when : {F : Type 0} → Bool → F → Option F
+when true fault = Some fault
+when false fault = None
+
+abbrev pub or : {F : Type 0} → Option F → Option F → Option F
+or (Some fault) more = Some fault
+or None more = more
+
+abbrev pub first : {F : Type 0} → List (Option F) → Option F
+first [] = None
+first (test ∷ tests) = or test (first tests)
+
+-- the first fault over the members
+abbrev pub first_over : {F X : Type 0} → (X → Option F) → List X → Option F
+first_over test [] = None
+first_over test (x ∷ xs) = or (test x) (first_over test xs)
+
+-- ---- names
+
+abbrev pub is_system_scalar : Text → Bool
+is_system_scalar name = bytes_eq name (codes "Boolean") || bytes_eq name (codes "Float") || bytes_eq name (codes "ID")
+    || bytes_eq name (codes "Int") || bytes_eq name (codes "String")
+
+-- the definition is of an object with this name
+abbrev pub is_object_named : Text → Definition → Bool
+is_object_named name (Object head implements fields) = bytes_eq name head.name
+is_object_named name _ = false
+
+-- a type of this name is defined, or is a system scalar
+abbrev pub exists : (defined : List Text) → Text → Bool
+exists defined name = is_system_scalar name || is_among name defined
+
+abbrev pub is_object : List Definition → Text → Bool
+is_object definitions name = list_any (is_object_named name) definitions
+
+-- ---- the groups of rules
+
+abbrev pub missing : (defined : List Text) → Text → Option Fault
+missing defined name = when (not (exists defined name)) (not_found name)
+
+-- no type has the name of a system scalar
+abbrev pub name_fault : Definition → Option Fault
+name_fault (Scalar head) = when (is_system_scalar head.name) (already_exists head.name)
+name_fault (Object head implements fields) = when (is_system_scalar head.name) (already_exists head.name)
+name_fault _ = None
+
+-- the type of a field exists
+abbrev pub field_missing : (defined : List Text) → FieldDef → Option Fault
+field_missing defined field = missing defined (innermost (reference field.ty))
+
+abbrev pub existence_fault : (defined : List Text) → Definition → Option Fault
+existence_fault defined (Object head implements fields) = first_over (field_missing defined) fields
+existence_fault defined _ = None
+
+-- the query root is an object, where it exists
+abbrev pub root_fault : List Definition → (defined : List Text) → Text → Option Fault
+root_fault definitions defined query = when (exists defined query && not (is_object definitions query)) query_root
+
+-- an object has a field
+abbrev pub object_fault : Definition → Option Fault
+object_fault (Object head implements fields) = when (is_empty fields) (empty_object head.name)
+object_fault _ = None
+
+abbrev pub tests : List Definition → (defined : List Text) → Text → List (Option Fault)
+tests definitions defined query =
+    first_over name_fault definitions ∷
+    missing defined query ∷
+    first_over (existence_fault defined) definitions ∷
+    root_fault definitions defined query ∷
+    first_over object_fault definitions ∷ []
+
+-- the first broken rule of the definitions, with this name of the query root
+abbrev pub first_fault : List Definition → Text → Option Fault
+first_fault definitions query = first (tests definitions (type_names definitions) query)

@@ -1,0 +1,18 @@
+//! From the bytes of a schema document to its canonical text.
+#![tactic(auto)]
+
+mod error;
+mod names;
+mod plain;
+mod printer;
+mod program;
+mod publishing;
+mod registration;
+mod rules;
+
+pub use error::{PublishError, SchemaError, fault_line};
+pub use gql_streams::{
+    Failed, MemorySink, MemorySource, Sink, Source, StdSink, StdSource, SureSink, SureSource,
+};
+pub use program::{LIMIT, run};
+pub use publishing::publish;

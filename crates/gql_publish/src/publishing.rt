@@ -1,0 +1,72 @@
+//! From the bytes of a document to its canonical text.
+
+ghost use Rattle.std.specs.Prelude.{◌≡◌, IfOk, IfErr, Ok, Err, string_bytes};
+ghost use Rattle.gql_text.specs.declared.document.Document.{Document};
+ghost use Rattle.gql_text.specs.Verdict.{Spells};
+ghost use Rattle.gql_publish.specs.Plain.{first_root, query_of};
+ghost use Rattle.gql_publish.specs.View.{view_of};
+ghost use Rattle.gql_publish.specs.Spelling.{spell};
+ghost use Rattle.gql_publish.specs.Verdict.{HasVerdict};
+ghost use Rattle.gql_publish.specs.Errors.{Refuses};
+ghost use Rattle.gql_publish.specs.Outcome.{outcome, Gives};
+
+use crate::error::PublishError;
+use crate::plain::plain_type_names;
+use crate::printer::printed;
+use crate::registration::registered;
+use crate::rules::check;
+use gql_text::{Definition, RootLine, read_sdl};
+use std::alloc::Global;
+
+fn first_root(roots: &[RootLine]) -> &str
+    ensures { result.now ≡ first_root roots.now }
+{
+    match roots {
+        [root, ..] => root.name.as_str(),
+        [] => "",
+    }
+}
+
+/// The name of the query root: that of the first schema block, or else `Query`.
+#[tactic(auto, using(crate::proofs::Roots::query_step))]
+fn query_of(definitions: &[Definition]) -> &str
+    ensures { result.now ≡ query_of definitions.now }
+{
+    for definition in definitions {
+        if let Definition::SchemaBlock { roots, .. } = definition {
+            return first_root(roots.as_slice());
+        }
+    }
+    "Query"
+}
+
+fn publish_definitions(alloc: Global, definitions: &[Definition]) -> Result<String, PublishError>
+    ensures { Gives result (outcome definitions.now) }
+{
+    let Some(names) = plain_type_names(alloc, definitions)? else {
+        return Err(PublishError::NotYet);
+    };
+    let query = query_of(definitions);
+    if let Err(error) = check(alloc, definitions, &names, query) {
+        return Err(PublishError::from(error));
+    }
+    let registry = registered(alloc, definitions, query)?;
+    Ok(printed(alloc, &registry)?)
+}
+
+/// The canonical text of a valid plain document.
+///
+/// A reader's fault comes exactly where the bytes are no document, with its place. `NotYet` comes exactly where they are
+/// one that is not plain, and `Schema` exactly where they are a plain one that breaks a rule, with the first such rule.
+pub fn publish(alloc: Global, bytes: &[u8]) -> Result<String, PublishError>
+    ensures text { IfOk result (λ text. (document : Document) × HasVerdict bytes.now (Ok document) × (string_bytes text ≡ spell (view_of document.definitions))) }
+    ensures refused { IfErr result (Refuses (λ refusal. HasVerdict bytes.now (Err refusal))) }
+
+    // What becomes of the definitions of a document that the bytes spell is the answer, unless memory runs out.
+    ensures only { (document : Document) → Spells document bytes.now → Gives result (outcome document.definitions) }
+{
+    match read_sdl(alloc, bytes) {
+        Ok(document) => publish_definitions(alloc, document.definitions.as_slice()),
+        Err(error) => Err(PublishError::from(error)),
+    }
+}

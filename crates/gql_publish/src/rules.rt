@@ -1,0 +1,170 @@
+//! The rules of a schema, in their order. Each function answers the first broken rule of its group.
+
+ghost use Rattle.std.specs.Prelude.{◌≡◌};
+ghost use Rattle.gql_publish.specs.Rules.{when, first_over, is_system_scalar, exists, is_object_named, is_object, already_exists, missing, name_fault, field_missing, existence_fault, root_fault, object_fault, first, tests};
+ghost use Rattle.gql_publish.specs.Answers.{Tells};
+
+use crate::error::SchemaError;
+use crate::names::Names;
+use gql_text::{Definition, FieldDef};
+use std::alloc::Global;
+
+fn is_system_scalar(name: &str) -> bool
+    ensures { result ≡ is_system_scalar name.now }
+{
+    matches!(name, "Boolean" | "Float" | "ID" | "Int" | "String")
+}
+
+fn exists(defined: &Names<'_>, name: &str) -> bool
+    ensures { result ≡ exists defined.now name.now }
+{
+    is_system_scalar(name) || defined.has(name)
+}
+
+fn check_name(alloc: Global, name: &str) -> Result<(), SchemaError>
+    ensures { Tells result (when (is_system_scalar name.now) (already_exists name.now)) }
+{
+    if is_system_scalar(name) {
+        return Err(SchemaError::AlreadyExists {
+            name: String::from_str(alloc, name)?,
+        });
+    }
+    Ok(())
+}
+
+fn check_type_name(alloc: Global, definition: &Definition) -> Result<(), SchemaError>
+    ensures { Tells result (name_fault definition.now) }
+{
+    match definition {
+        Definition::Scalar(head) => check_name(alloc, head.name.as_str()),
+        Definition::Object { head, .. } => check_name(alloc, head.name.as_str()),
+        _ => Ok(()),
+    }
+}
+
+#[tactic(auto, using(crate::proofs::Firsts::first_step))]
+fn check_type_names(alloc: Global, definitions: &[Definition]) -> Result<(), SchemaError>
+    ensures { Tells result (first_over name_fault definitions.now) }
+{
+    for definition in definitions {
+        check_type_name(alloc, definition)?;
+    }
+    Ok(())
+}
+
+fn check_exists(alloc: Global, defined: &Names<'_>, name: &str) -> Result<(), SchemaError>
+    ensures { Tells result (missing defined.now name.now) }
+{
+    if !exists(defined, name) {
+        return Err(SchemaError::NotFound {
+            name: String::from_str(alloc, name)?,
+        });
+    }
+    Ok(())
+}
+
+/// The type of each field exists.
+#[tactic(auto, using(crate::proofs::Firsts::first_step))]
+fn check_fields(alloc: Global, defined: &Names<'_>, fields: &[FieldDef]) -> Result<(), SchemaError>
+    ensures { Tells result (first_over (field_missing defined.now) fields.now) }
+{
+    for field in fields {
+        check_exists(alloc, defined, field.ty.type_name())?;
+    }
+    Ok(())
+}
+
+fn check_field_types(
+    alloc: Global,
+    defined: &Names<'_>,
+    definition: &Definition,
+) -> Result<(), SchemaError>
+    ensures { Tells result (existence_fault defined.now definition.now) }
+{
+    match definition {
+        Definition::Object { fields, .. } => check_fields(alloc, defined, fields.as_slice()),
+        _ => Ok(()),
+    }
+}
+
+#[tactic(auto, using(crate::proofs::Firsts::first_step))]
+fn check_existence(
+    alloc: Global,
+    defined: &Names<'_>,
+    definitions: &[Definition],
+) -> Result<(), SchemaError>
+    ensures { Tells result (first_over (existence_fault defined.now) definitions.now) }
+{
+    for definition in definitions {
+        check_field_types(alloc, defined, definition)?;
+    }
+    Ok(())
+}
+
+fn is_object_named(name: &str, definition: &Definition) -> bool
+    ensures { result ≡ is_object_named name.now definition.now }
+{
+    match definition {
+        Definition::Object { head, .. } => name == head.name.as_str(),
+        _ => false,
+    }
+}
+
+fn is_object(definitions: &[Definition], name: &str) -> bool
+    ensures { result ≡ is_object definitions.now name.now }
+{
+    definitions.iter().any(|d| is_object_named(name, d))
+}
+
+fn check_query_root(
+    definitions: &[Definition],
+    defined: &Names<'_>,
+    query: &str,
+) -> Result<(), SchemaError>
+    ensures { Tells result (root_fault definitions.now defined.now query.now) }
+{
+    if exists(defined, query) && !is_object(definitions, query) {
+        return Err(SchemaError::QueryRoot);
+    }
+    Ok(())
+}
+
+fn check_object(alloc: Global, definition: &Definition) -> Result<(), SchemaError>
+    ensures { Tells result (object_fault definition.now) }
+{
+    let Definition::Object { head, fields, .. } = definition else {
+        return Ok(());
+    };
+    if fields.as_slice().is_empty() {
+        return Err(SchemaError::EmptyObject {
+            ty: String::from_str(alloc, head.name.as_str())?,
+        });
+    }
+    Ok(())
+}
+
+#[tactic(auto, using(crate::proofs::Firsts::first_step))]
+fn check_objects(alloc: Global, definitions: &[Definition]) -> Result<(), SchemaError>
+    ensures { Tells result (first_over object_fault definitions.now) }
+{
+    for definition in definitions {
+        check_object(alloc, definition)?;
+    }
+    Ok(())
+}
+
+/// The first broken rule of definitions, with the names of the types that they define and that of the query root.
+pub(crate) fn check(
+    alloc: Global,
+    definitions: &[Definition],
+    defined: &Names<'_>,
+    query: &str,
+) -> Result<(), SchemaError>
+    ensures { Tells result (first (tests definitions.now defined.now query.now)) }
+{
+    check_type_names(alloc, definitions)?;
+    check_exists(alloc, defined, query)?;
+    check_existence(alloc, defined, definitions)?;
+    check_query_root(definitions, defined, query)?;
+    check_objects(alloc, definitions)
+}
