@@ -6,3 +6,11 @@ pub mod Registering
 pub mod Roots
 pub mod Tellings
 pub mod Texts
+pub mod Choices
+pub mod Parts
+pub mod Said
+pub mod Kept
+pub mod Sorting
+pub mod Trees
+pub mod Unbroken
+pub mod ReadBack

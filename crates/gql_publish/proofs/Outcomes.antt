@@ -20,6 +20,8 @@ use Rattle.gql_syntax.specs.declared.error.ReadError.{ReadError}
 use Rattle.gql_syntax.specs.declared.error.ReadError.TheVariants as read_error
 use Rattle.gql_publish.specs.Errors.{Refuses, read_as}
 use Rattle.gql_publish.specs.Answers.{fault_of, published_as}
+use Rattle.gql_publish.specs.Readback.{IsReadBack, TellsView}
+use Rattle.gql_publish.proofs.ReadBack.{read_back, tells_view}
 use Rattle.gql_publish.specs.Outcome.{checked, outcome, Gives, Says}
 
 -- ---- the outcome, by its parts
@@ -136,3 +138,25 @@ pub one_only : (bytes : List ℕ) (document : Document) (result : Result (String
     → Gives result (outcome document.definitions) → (other : Document) → Spells other bytes → Gives result (outcome other.definitions)
 one_only bytes document result only o other spelled =
     subst (λ (d : Document). Gives result (outcome d.definitions)) (sym (only other spelled)) o
+
+-- ---- what is published is read again
+
+-- the text of each valid plain document that the bytes are
+text_is : (bytes : List ℕ) (text : Text) → ((document : Document) → Spells document bytes → outcome document.definitions ≡ Ok text)
+    → (document : Document) → HasVerdict bytes (Ok document) → text ≡ spell (view_of document.definitions)
+text_is bytes text only document h =
+    let a : outcome document.definitions ≡ Ok text = only document h.0.spelled in
+    let b : outcome document.definitions ≡ Ok (text_in document.definitions) = outcome-valid document.definitions h.0.plain h.1 in
+    cc
+
+pub back_clause : (bytes : List ℕ) (result : Result (String Global) PublishError) → ((document : Document) → Spells document bytes → Gives result (outcome document.definitions))
+    → IfOk result (λ text. (document : Document) → HasVerdict bytes (Ok document) → IsReadBack (string_bytes text) (view_of document.definitions))
+back_clause bytes (Ok text) only = λ document h.
+    subst (λ (t : Text). IsReadBack t (view_of document.definitions)) (sym (text_is bytes (string_bytes text) only document h)) (read_back bytes document h)
+back_clause bytes (Err error) only = search rules
+
+pub view_clause : (bytes : List ℕ) (result : Result (String Global) PublishError) → ((document : Document) → Spells document bytes → Gives result (outcome document.definitions))
+    → IfOk result (λ text. (document : Document) → HasVerdict bytes (Ok document) → TellsView (string_bytes text) (view_of document.definitions))
+view_clause bytes (Ok text) only = λ document h.
+    subst (λ (t : Text). TellsView t (view_of document.definitions)) (sym (text_is bytes (string_bytes text) only document h)) (tells_view bytes document h)
+view_clause bytes (Err error) only = search rules

@@ -1,13 +1,33 @@
 -- What is known at a trouble, and the line that is told.
-use Rattle.std.proofs.Common.{arith, List, ℕ, String, refl}
-use Rattle.std.specs.Prelude.{Option}
-use Rattle.std.specs.Io.KnownBytes.{Keeps}
+use Rattle.std.proofs.Common.{◌≡◌, arith, List, ℕ, String, refl, subst, length, Ok}
+use Rattle.std.specs.Prelude.{Option, IfSome}
+use Rattle.std.specs.Io.KnownBytes.{Keeps, Appends}
 use Rattle.std.specs.declared.alloc.Global.{Global}
 use Rattle.gql_streams.specs.Reading.{ReadsAll}
-use Rattle.gql_publish.specs.Endings.{IsLine}
+use Rattle.gql_text.specs.declared.document.Document.{Document}
+use Rattle.gql_publish.specs.View.{view_of}
+use Rattle.gql_publish.specs.Spelling.{spell}
+use Rattle.gql_publish.specs.Verdict.{HasVerdict}
+use Rattle.gql_publish.specs.Endings.{Publishes, IsLine}
 use Rattle.gql_publish.specs.Troubles.{IsTroubleWith, Explains, status_of, trouble_line}
 use Rattle.gql_publish.specs.declared.program.Trouble.{Trouble}
 use Rattle.gql_publish.specs.declared.program.Trouble.TheVariants as trouble
+use Rattle.gql_publish.proofs.ReadBack.{read_back, tells_view}
+
+-- a valid document that was read, and the text of its view that was written
+pub published : (left left' written written' : Option (List ℕ)) (flushed : ℕ) (bytes text : List ℕ) → ReadsAll left left' bytes
+    → ((document : Document) × HasVerdict bytes (Ok document) × (text ≡ spell (view_of document.definitions)))
+    → Appends written written' text → IfSome written' (λ w. flushed ≡ length w) → Publishes left left' written written' flushed
+published left left' written written' flushed bytes text read (document, valid, is) appends all = record {
+  input = bytes;
+  document = document;
+  read = read;
+  valid = valid;
+  text = subst (Appends written written') is appends;
+  flush = all;
+  read_back = read_back bytes document valid;
+  one_view = tells_view bytes document valid;
+}
 
 -- a trouble with bytes that were read to their end
 pub explains : (words : List (String Global)) (left left' : Option (List ℕ)) (reads reads' : ℕ) (written : Option (List ℕ)) (writes : ℕ) (bytes : List ℕ) (t : Trouble)

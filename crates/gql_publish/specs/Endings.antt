@@ -10,13 +10,15 @@ use Rattle.gql_text.specs.declared.document.Document.{Document}
 use Rattle.gql_publish.specs.View.{view_of}
 use Rattle.gql_publish.specs.Spelling.{spell}
 use Rattle.gql_publish.specs.Verdict.{Refusal, HasVerdict}
+use Rattle.gql_publish.specs.Readback.{IsReadBack, TellsView}
 use Rattle.gql_publish.specs.Errors.{refusal_line}
 
 -- no word is taken
 abbrev pub GoodWords : List (String Global) → Type 0
 GoodWords words = words ≡ []
 
--- the whole input is a valid document, and the output got the spelling of its view, flushed
+-- The whole input is a valid document, and the output got the spelling of its view, flushed. That text is read again,
+-- and it tells the view.
 pub record Publishes (left left' written written' : Option (List ℕ)) (flushed : ℕ) : Type 0 where
   pub input : List ℕ
   pub document : Document
@@ -24,6 +26,8 @@ pub record Publishes (left left' written written' : Option (List ℕ)) (flushed 
   pub valid : HasVerdict input (Ok document)
   pub text : Appends written written' (spell (view_of document.definitions))
   pub flush : IfSome written' (λ bytes. flushed ≡ length bytes)
+  pub read_back : IsReadBack (spell (view_of document.definitions)) (view_of document.definitions)
+  pub one_view : TellsView (spell (view_of document.definitions)) (view_of document.definitions)
 
 -- the whole input is a valid document, and the output got a front of the spelling of its view
 pub record PublishesFront (left left' written written' : Option (List ℕ)) : Type 0 where

@@ -7,5 +7,6 @@ pub mod Answers
 pub mod Verdict
 pub mod Errors
 pub mod Outcome
+pub mod Readback
 pub mod Endings
 pub mod Troubles

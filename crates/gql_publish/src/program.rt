@@ -163,7 +163,8 @@ pub fn run<S: Source, K: Sink, F: Sink>(
     ensures words { result ≢ 2 → result ≢ 5 → GoodWords words.now }
     ensures bad_words { result ≡ 2 → ¬ GoodWords words.now }
 
-    // The whole input is a valid document, and the output got the spelling of its view, flushed.
+    // The whole input is a valid document, and the output got the spelling of its view, flushed. That text is read again,
+    // and it tells the view.
     ensures done { result ≡ 0 → Publishes (S.left input.old) (S.left input.new)
         (K.written output.old) (K.written output.new) (K.flushed output.new) }
 

@@ -8,6 +8,7 @@ ghost use Rattle.gql_publish.specs.View.{view_of};
 ghost use Rattle.gql_publish.specs.Spelling.{spell};
 ghost use Rattle.gql_publish.specs.Verdict.{HasVerdict};
 ghost use Rattle.gql_publish.specs.Errors.{Refuses};
+ghost use Rattle.gql_publish.specs.Readback.{IsReadBack, TellsView};
 ghost use Rattle.gql_publish.specs.Outcome.{outcome, Gives};
 
 use crate::error::PublishError;
@@ -61,6 +62,11 @@ fn publish_definitions(alloc: Global, definitions: &[Definition]) -> Result<Stri
 pub fn publish(alloc: Global, bytes: &[u8]) -> Result<String, PublishError>
     ensures text { IfOk result (λ text. (document : Document) × HasVerdict bytes.now (Ok document) × (string_bytes text ≡ spell (view_of document.definitions))) }
     ensures refused { IfErr result (Refuses (λ refusal. HasVerdict bytes.now (Err refusal))) }
+
+    // The text without the definitions of the system directives is itself a valid plain document with the same query root
+    // and the same types; and each valid plain document has this text exactly where it has this view.
+    ensures read_back { IfOk result (λ text. (document : Document) → HasVerdict bytes.now (Ok document) → IsReadBack (string_bytes text) (view_of document.definitions)) }
+    ensures one_view { IfOk result (λ text. (document : Document) → HasVerdict bytes.now (Ok document) → TellsView (string_bytes text) (view_of document.definitions)) }
 
     // What becomes of the definitions of a document that the bytes spell is the answer, unless memory runs out.
     ensures only { (document : Document) → Spells document bytes.now → Gives result (outcome document.definitions) }

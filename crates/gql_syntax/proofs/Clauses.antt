@@ -23,7 +23,8 @@ use Rattle.gql_syntax.specs.declared.stopped.Stopped.TheVariants as stopped
 use Rattle.gql_syntax.specs.declared.syntax.WrittenDefinition.{WrittenDefinition}
 use Rattle.gql_syntax.proofs.Places.{placed, no_end_here, one_end}
 
-fit : (k : TokenKind) (text after : List ℕ) → IsPiece (shape.Token k) text after → Fits k text
+-- a token has a text of the form of its kind
+pub fit : (k : TokenKind) (text after : List ℕ) → IsPiece (shape.Token k) text after → Fits k text
 fit kind.Name text after p = p.0
 fit kind.Punctuator text after p = tt
 fit kind.Whole text after p = p.0

@@ -46,6 +46,10 @@ not_false : (b : Bool) → not b ≡ true → b ≡ false
 not_false true e = absurd cc
 not_false false e = refl
 
+-- the sort of a name is that of a name
+pub names_among : (text : List ℕ) → among (name_sort text) names ≡ true
+names_among text = name_all (λ n. among n names) text refl refl refl refl
+
 pub no_end_sort : (k : TokenKind) (text : List ℕ) → among (sort_of k text) ends ≡ false
 no_end_sort kind.Punctuator text = not_false _ (in_table (λ n. not (among n ends)) punctuators text close_brace refl refl)
 no_end_sort kind.Name text = not_false _ (name_all (λ n. not (among n ends)) text refl refl refl refl)

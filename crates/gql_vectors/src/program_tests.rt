@@ -206,6 +206,44 @@ fn bracketed(alloc: Global, count: usize) -> Result<String, AllocError> {
     Ok(text)
 }
 
+/// The text without the definitions of the system directives.
+fn without_directives(alloc: Global, text: &str) -> Result<String, AllocError> {
+    match text.split_once(TAIL) {
+        Some((types, schema)) => format!(in alloc; "{types}{schema}"),
+        None => String::from_str(alloc, "no definitions of directives"),
+    }
+}
+
+/// A document whose text is read again, and is written as it was.
+fn is_read_again(rt: &impl Abort, alloc: Global, input: &str) -> Result<(), Fail> {
+    let first = ran_on(alloc, input.as_bytes())?;
+    assert_eq!(rt; first.line.as_str(), "", "of {input}");
+    let bare = without_directives(alloc, first.output.as_str())?;
+    let again = ran_on(alloc, bare.as_bytes())?;
+    assert_eq!(rt; again.line.as_str(), "", "of {input}");
+    assert_eq!(rt; again.status, 0, "of {input}");
+    assert_eq!(rt; again.output.as_str(), first.output.as_str(), "of {input}");
+    Ok(())
+}
+
+#[test]
+fn what_is_written_is_read_again(rt: HostRuntime) -> Result<(), Fail> {
+    let rows = [
+        "schema{query:Query} type Query{v:Int}",
+        "schema{query:Query} scalar B,type Query{v:[B!]!}#c\nscalar A",
+        "type Query{v:Int}",
+        "type Query{type:scalar,b:[[Int!]]a:ID!}scalar scalar",
+        "schema{query:schema} type schema{query:type} scalar type",
+        "type B{a:C} type Query{z:B a:A!} scalar C scalar A",
+        "type Query{a:Int b:Int! c:[Int] d:[Int]! e:[Int!] f:[Int!]! g:[[Int]] h:[[Int!]!]! i:[[[Query]]!]}",
+    ];
+    for input in rows {
+        is_read_again(&rt, rt.alloc(), input)?;
+    }
+    let deepest = bracketed(rt.alloc(), 64)?;
+    is_read_again(&rt, rt.alloc(), deepest.as_str())
+}
+
 #[test]
 fn sixty_four_brackets_may_be_open(rt: HostRuntime) -> Result<(), Fail> {
     let alloc = rt.alloc();

@@ -1,4 +1,4 @@
-use Rattle.gql_publish.proofs.Outcomes.{text_clause, refused_clause, read_told, read_only, one_only}
+use Rattle.gql_publish.proofs.Outcomes.{text_clause, back_clause, view_clause, refused_clause, read_told, read_only, one_only}
 use Rattle.gql_publish.proofs.publishing.publish.Goals as goal
 
 pub returns-in-Ok-clause-text : goal.returns-in-Ok-clause-text
@@ -8,6 +8,16 @@ returns-in-Ok-clause-text c =
 pub returns-in-Ok-clause-refused : goal.returns-in-Ok-clause-refused
 returns-in-Ok-clause-refused c =
     refused_clause c.args.bytes.now c.in-Ok.document c.in-Ok.ensures.found c.publish_definitions.result (rw c.as_slice.ensures at c.publish_definitions.ensures)
+
+pub returns-in-Ok-clause-read_back : goal.returns-in-Ok-clause-read_back
+returns-in-Ok-clause-read_back c =
+    back_clause c.args.bytes.now c.publish_definitions.result
+    (one_only c.args.bytes.now c.in-Ok.document c.publish_definitions.result c.in-Ok.ensures.only (rw c.as_slice.ensures at c.publish_definitions.ensures))
+
+pub returns-in-Ok-clause-one_view : goal.returns-in-Ok-clause-one_view
+returns-in-Ok-clause-one_view c =
+    view_clause c.args.bytes.now c.publish_definitions.result
+    (one_only c.args.bytes.now c.in-Ok.document c.publish_definitions.result c.in-Ok.ensures.only (rw c.as_slice.ensures at c.publish_definitions.ensures))
 
 pub returns-in-Ok-clause-only : goal.returns-in-Ok-clause-only
 returns-in-Ok-clause-only c =
