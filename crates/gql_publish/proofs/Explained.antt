@@ -1,22 +1,20 @@
 -- What a trouble tells, from what the publisher answered.
 use Rattle.std.proofs.Common.{◌≡◌, ◌++◌, ◌∷◌, [], List, ℕ, Result, Ok, Err, string_bytes, refl, subst}
 use Rattle.std.specs.Prelude.{IsSomeAnd, Some, None, Option}
-use Rattle.gql_registry.specs.Parts.{Text}
+use Rattle.gql_meta.specs.Parts.{Text}
 use Rattle.gql_text.specs.declared.document.Document.{Document}
 use Rattle.gql_publish.specs.declared.error.PublishError.{PublishError}
 use Rattle.gql_publish.specs.declared.error.PublishError.TheVariants as publish_error
-use Rattle.gql_publish.specs.declared.error.SchemaError.{SchemaError}
-use Rattle.gql_publish.specs.declared.error.SchemaError.TheVariants as rule
 use Rattle.gql_publish.specs.declared.program.Trouble.{Trouble}
 use Rattle.gql_publish.specs.declared.program.Trouble.TheVariants as trouble
-use Rattle.gql_publish.specs.Rules.{Fault, already_exists, not_found, query_root, empty_object}
+use Rattle.gql_rules.specs.Faults.{Fault}
 use Rattle.gql_publish.specs.View.{view_of}
 use Rattle.gql_publish.specs.Spelling.{spell}
 use Rattle.gql_publish.specs.Verdict.{Refusal, unreadable, not_yet, broken, HasVerdict}
 use Rattle.gql_text.specs.Verdict.{Spells}
 use Rattle.gql_syntax.specs.declared.error.ReadError.TheVariants as read_error
-use Rattle.gql_publish.specs.Answers.{fault_of}
-use Rattle.gql_publish.specs.Errors.{Refuses, refusal_line, message_of}
+use Rattle.gql_dynamic.specs.Errors.{fault_of, told}
+use Rattle.gql_publish.specs.Errors.{Refuses, refusal_line}
 use Rattle.gql_publish.specs.Outcome.{outcome}
 use Rattle.gql_publish.proofs.Outcomes.{outcome-valid}
 use Rattle.gql_publish.specs.Troubles.{IsTroubleWith, IsRefusalLine, TellsError}
@@ -51,13 +49,10 @@ none_valid bytes error n only document h =
     (subst (λ (r : Result Text Refusal). Refuses (λ refusal. r ≡ Err refusal) error) (outcome-valid document.definitions h.0.plain h.1) (only document h.0.spelled))
 
 -- a broken rule that is told
-rule_told : (bytes : List ℕ) (error : SchemaError) (line : Text) → IsSomeAnd (fault_of error) (λ fault. HasVerdict bytes (Err (broken fault))) → line ≡ message_of error ++ 10 ∷ []
+rule_told : (bytes : List ℕ) (o : Option Fault) (line : Text) → IsSomeAnd o (λ fault. HasVerdict bytes (Err (broken fault))) → line ≡ told o ++ 10 ∷ []
     → (refusal : Refusal) × HasVerdict bytes (Err refusal) × (line ≡ refusal_line refusal ++ 10 ∷ [])
-rule_told bytes (rule.AlreadyExists name) line h e = (broken (already_exists (string_bytes name)), h, e)
-rule_told bytes (rule.NotFound name) line h e = (broken (not_found (string_bytes name)), h, e)
-rule_told bytes rule.QueryRoot line h e = (broken query_root, h, e)
-rule_told bytes (rule.EmptyObject ty) line h e = (broken (empty_object (string_bytes ty)), h, e)
-rule_told bytes rule.OutOfMemory line h e = absurd h
+rule_told bytes (Some fault) line h e = (broken fault, h, e)
+rule_told bytes None line h e = absurd h
 
 line_told : (bytes : List ℕ) (error : PublishError) (line : Text) → Refuses (λ refusal. HasVerdict bytes (Err refusal)) error → IsRefusalLine error line
     → (refusal : Refusal) × HasVerdict bytes (Err refusal) × (line ≡ refusal_line refusal ++ 10 ∷ [])
@@ -69,7 +64,7 @@ line_told bytes (publish_error.Unsupported w at) line h e = (unreadable (read_er
 line_told bytes (publish_error.Duplicate name at) line h e = (unreadable (read_error.Duplicate name at), h, e)
 line_told bytes (publish_error.ReservedName name at) line h e = (unreadable (read_error.ReservedName name at), h, e)
 line_told bytes publish_error.NotYet line h e = (not_yet, h, e)
-line_told bytes (publish_error.Schema error) line h e = rule_told bytes error line h e
+line_told bytes (publish_error.Schema error) line h e = rule_told bytes (fault_of error) line h e
 line_told bytes publish_error.OutOfMemory line h e = absurd e
 
 -- want of memory has no line of a refusal

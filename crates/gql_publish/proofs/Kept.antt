@@ -6,7 +6,7 @@ use Rattle.gql_grammar.specs.Form.{one, many}
 use Rattle.gql_lexer.specs.Forms.{IsName}
 use Rattle.gql_readback.proofs.Texts.{Keeps, Spelled}
 use Rattle.gql_readback.proofs.Keeps.{any, name_keeps, spelled_keeps, refused_keeps, seq_keeps, map_keeps, alt_keeps, opt_keeps, many_keeps, some_keeps, AllIn, document_keeps}
-use Rattle.gql_registry.specs.Parts.{Text}
+use Rattle.gql_meta.specs.Parts.{Text}
 use Rattle.gql_syntax.specs.Documents.{SpelledBy}
 use Rattle.gql_syntax.specs.Grammar as g
 use Rattle.gql_syntax.specs.Reads.{or_none}

@@ -3,15 +3,15 @@ use Rattle.std.proofs.Common.{rules, ◌≡◌, ◌≢◌, ℕ, Bool, true, fals
 use Rattle.std.specs.Prelude.{IfSome, IsSomeAnd, IfOk, IfErr, string_bytes}
 use Rattle.std.specs.declared.string.String.{String}
 use Rattle.std.specs.declared.alloc.Global.{Global}
-use Rattle.gql_registry.specs.Parts.{Text}
+use Rattle.gql_meta.specs.Parts.{Text}
 use Rattle.gql_text.specs.declared.document.Document.{Document}
 use Rattle.gql_text.specs.declared.document.Definition.{Definition}
 use Rattle.gql_publish.specs.declared.error.PublishError.{PublishError}
 use Rattle.gql_publish.specs.declared.error.PublishError.TheVariants as publish_error
-use Rattle.gql_publish.specs.declared.error.SchemaError.{SchemaError}
-use Rattle.gql_publish.specs.declared.error.SchemaError.TheVariants as rule
+use Rattle.gql_dynamic.specs.declared.schema_error.SchemaError.{SchemaError}
 use Rattle.gql_publish.specs.Plain.{are_plain, query_of}
-use Rattle.gql_publish.specs.Rules.{Fault, first_fault}
+use Rattle.gql_publish.specs.Rules.{first_fault}
+use Rattle.gql_rules.specs.Faults.{Fault}
 use Rattle.gql_publish.specs.View.{view_of}
 use Rattle.gql_publish.specs.Spelling.{spell}
 use Rattle.gql_publish.specs.Verdict.{Refusal, Verdict, not_yet, broken, HasVerdict}
@@ -19,7 +19,8 @@ use Rattle.gql_text.specs.Verdict.{Spells, IsFault}
 use Rattle.gql_syntax.specs.declared.error.ReadError.{ReadError}
 use Rattle.gql_syntax.specs.declared.error.ReadError.TheVariants as read_error
 use Rattle.gql_publish.specs.Errors.{Refuses, read_as}
-use Rattle.gql_publish.specs.Answers.{fault_of, published_as}
+use Rattle.gql_publish.specs.Answers.{published_with, published_as}
+use Rattle.gql_dynamic.specs.Errors.{fault_of}
 use Rattle.gql_publish.specs.Readback.{IsReadBack, TellsView}
 use Rattle.gql_publish.proofs.ReadBack.{read_back, tells_view}
 use Rattle.gql_publish.specs.Outcome.{checked, outcome, Gives, Says}
@@ -47,11 +48,11 @@ outcome-broken ds fault e f = outcome-plain ds e ∙ ap (λ o. checked o (text_i
 -- a broken rule that is told
 pub broken_told : (ds : List Definition) (error : SchemaError) (answer : PublishError) → are_plain ds ≡ true → IfSome (fault_of error) (λ fault. fault_in ds ≡ Some fault)
     → published_as error answer → Refuses (λ refusal. outcome ds ≡ Err refusal) answer
-broken_told ds (rule.AlreadyExists name) answer e h is = subst (Refuses (λ refusal. outcome ds ≡ Err refusal)) (sym is) (outcome-broken ds _ e h)
-broken_told ds (rule.NotFound name) answer e h is = subst (Refuses (λ refusal. outcome ds ≡ Err refusal)) (sym is) (outcome-broken ds _ e h)
-broken_told ds rule.QueryRoot answer e h is = subst (Refuses (λ refusal. outcome ds ≡ Err refusal)) (sym is) (outcome-broken ds _ e h)
-broken_told ds (rule.EmptyObject ty) answer e h is = subst (Refuses (λ refusal. outcome ds ≡ Err refusal)) (sym is) (outcome-broken ds _ e h)
-broken_told ds rule.OutOfMemory answer e h is = subst (Refuses (λ refusal. outcome ds ≡ Err refusal)) (sym is) tt
+broken_told ds error answer e h is = by (fault_of error) refl h is
+  where
+    by : (o : Option Fault) → fault_of error ≡ o → IfSome o (λ fault. fault_in ds ≡ Some fault) → published_with o error answer → Refuses (λ refusal. outcome ds ≡ Err refusal) answer
+    by (Some fault) f h is = subst (Refuses (λ refusal. outcome ds ≡ Err refusal)) (sym is) (rw f (outcome-broken ds fault e h))
+    by None f h is = subst (Refuses (λ refusal. outcome ds ≡ Err refusal)) (sym is) tt
 
 -- ---- the verdict, by the outcome
 

@@ -5,7 +5,8 @@ use Rattle.std.specs.Str.{bytes_eq}
 use Rattle.std.specs.Prelude.{codes}
 use Rattle.gql_lexer.specs.Forms.{IsName}
 use Rattle.gql_readback.proofs.Texts.{Spelled}
-use Rattle.gql_registry.specs.Parts.{Text, Field, Meta, scalar, object}
+use Rattle.gql_meta.specs.Parts.{Text, Field, Meta}
+use Rattle.gql_registry.specs.Plain as plain
 use Rattle.gql_syntax.specs.Grammar.{type_ref}
 use Rattle.gql_text.specs.declared.document.Definition.{Definition}
 use Rattle.gql_text.specs.declared.document.Definition.TheVariants.{SchemaBlock, Scalar, Object, Interface, Union, Enum, Input, Directive}
@@ -13,7 +14,8 @@ use Rattle.gql_text.specs.declared.document.FieldDef.{FieldDef}
 use Rattle.gql_value.specs.declared.type_ref.TypeRef.{TypeRef}
 use Rattle.gql_value.specs.TypeRefs.{type_text}
 use Rattle.gql_publish.specs.Names.{are_distinct}
-use Rattle.gql_publish.specs.Plain.{is_reserved, type_names}
+use Rattle.gql_publish.specs.Plain.{type_names}
+use Rattle.gql_text.specs.Owners.{is_reserved}
 use Rattle.gql_publish.specs.View.{field_entry, metas}
 
 pub record PlainField : Type 0 where
@@ -47,11 +49,11 @@ plains definitions = flat_map plain_of definitions
 -- ---- what the view has of them
 
 abbrev pub entry_of : PlainField → Text × Field
-entry_of f = (f.name, record { name = f.name; ty = type_text f.ty })
+entry_of f = (f.name, plain.plain_field f.name (type_text f.ty))
 
 abbrev pub meta_of : PlainType → Meta
-meta_of (plain_scalar name) = scalar name
-meta_of (plain_object name fields) = object name (map entry_of fields)
+meta_of (plain_scalar name) = plain.plain_scalar name
+meta_of (plain_object name fields) = plain.plain_object name (map entry_of fields)
 
 entries_are : (fields : List FieldDef) → map field_entry fields ≡ map entry_of (map plain_field fields)
 entries_are [] = refl
@@ -60,9 +62,9 @@ entries_are (f ∷ fields) = ap (λ (es : List (Text × Field)). field_entry f �
 pub metas_are : (ds : List Definition) → metas ds ≡ map meta_of (plains ds)
 metas_are [] = refl
 metas_are (SchemaBlock roots at ∷ ds) = metas_are ds
-metas_are (Scalar head ∷ ds) = ap (λ (ms : List Meta). scalar head.name ∷ ms) (metas_are ds)
+metas_are (Scalar head ∷ ds) = ap (λ (ms : List Meta). plain.plain_scalar head.name ∷ ms) (metas_are ds)
 metas_are (Object head implements fields ∷ ds) =
-    ap₂ (λ (es : List (Text × Field)) (ms : List Meta). object head.name es ∷ ms) (entries_are fields) (metas_are ds)
+    ap₂ (λ (es : List (Text × Field)) (ms : List Meta). plain.plain_object head.name es ∷ ms) (entries_are fields) (metas_are ds)
 metas_are (Interface head implements fields ∷ ds) = metas_are ds
 metas_are (Union head members ∷ ds) = metas_are ds
 metas_are (Enum head values ∷ ds) = metas_are ds

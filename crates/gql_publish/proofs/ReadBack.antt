@@ -8,7 +8,7 @@ use Rattle.gql_readback.proofs.Texts.{is_unquoted}
 use Rattle.gql_readback.proofs.Bytes.{unquoted-append, name_unquoted, unquoted_utf8, before_quote}
 use Rattle.gql_readback.proofs.Types.{type_unquoted}
 use Rattle.gql_readback.proofs.Whole.{spelled_by, one_tree}
-use Rattle.gql_registry.specs.Parts.{Text, Meta}
+use Rattle.gql_meta.specs.Parts.{Text, Meta}
 use Rattle.gql_registry.specs.Registry.{with_types}
 use Rattle.gql_syntax.specs.Documents.{SpelledBy}
 use Rattle.gql_syntax.specs.declared.operation.OperationType.TheVariants.{Subscription}

@@ -8,7 +8,7 @@ use Rattle.gql_lexer.specs.Forms.{IsName}
 use Rattle.gql_readback.proofs.Texts.{Says}
 use Rattle.gql_readback.proofs.Says.{blank, blanks_behind, name_says, sign_says, sign_then, word_then, joined, nothing_then, absent, present, IsThere, left, right, mapped, weaken, none, IsCons, cons_says, many_says, some_says}
 use Rattle.gql_readback.proofs.Types.{type_ref_says}
-use Rattle.gql_registry.specs.Parts.{Text}
+use Rattle.gql_meta.specs.Parts.{Text}
 use Rattle.gql_syntax.specs.Grammar as g
 use Rattle.gql_syntax.specs.Reads.{or_none}
 use Rattle.gql_syntax.specs.Sorts as s

@@ -5,7 +5,7 @@ use Rattle.std.specs.List.{AllByRecursion, AllZip, list_all, list_any, filter_ma
 use Rattle.std.specs.Str.{bytes_eq}
 use Rattle.std.proofs.lemmas.List.Folds.{list_any-append}
 use Rattle.std.specs.Cmp.Lexicographic.{same_text}
-use Rattle.gql_registry.specs.Parts.{Text}
+use Rattle.gql_meta.specs.Parts.{Text}
 use Rattle.gql_syntax.specs.declared.operation.OperationType.TheVariants.{Subscription}
 use Rattle.gql_syntax.specs.declared.syntax.PlacedName.{PlacedName}
 use Rattle.gql_syntax.specs.declared.syntax.Field.{Field}

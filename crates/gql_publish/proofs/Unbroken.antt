@@ -3,43 +3,45 @@ use Rattle.std.proofs.Common.{◌≡◌, Bool, true, false, List, [], ◌∷◌,
 use Rattle.std.specs.Prelude.{◌&&◌, ◌||◌, not}
 use Rattle.std.specs.List.{AllByRecursion, list_any}
 use Rattle.std.specs.Str.{bytes_eq}
-use Rattle.gql_registry.specs.Parts.{Text}
+use Rattle.gql_meta.specs.Parts.{Text}
 use Rattle.gql_text.specs.declared.document.Definition.{Definition}
 use Rattle.gql_text.specs.declared.document.Definition.TheVariants.{SchemaBlock, Scalar, Object, Interface, Union, Enum, Input, Directive}
 use Rattle.gql_text.specs.declared.document.FieldDef.{FieldDef}
 use Rattle.gql_value.specs.TypeRefs.{reference, innermost}
 use Rattle.gql_publish.specs.Names.{is_among}
 use Rattle.gql_publish.specs.Plain.{is_empty, type_names}
-use Rattle.gql_publish.specs.Rules.{when, or, first, first_over, is_system_scalar, exists, is_object, missing, name_fault, field_missing, existence_fault, root_fault, object_fault, query_root, tests, first_fault}
+use Rattle.gql_publish.specs.Rules.{is_system_scalar, exists, is_object, missing, name_fault, field_missing, existence_fault, root_fault, object_fault, tests, first_fault}
+use Rattle.gql_rules.specs.Faults.{query_root}
+use Rattle.gql_rules.specs.Tests.{fault_if, or_else, first_of, first_in}
 use Rattle.gql_publish.proofs.Choices.{not_true, true_not}
 use Rattle.gql_publish.proofs.Parts.{PlainField, PlainType, plain_scalar, plain_object, plain_name, plain_field, plains, names_are}
 
 -- ---- tests that find nothing
 
-or_none : {F : Type 0} (a b : Option F) → or a b ≡ None → (a ≡ None) × (b ≡ None)
+or_none : {F : Type 0} (a b : Option F) → or_else a b ≡ None → (a ≡ None) × (b ≡ None)
 or_none (Some f) b e = absurd cc
 or_none None b e = (refl, e)
 
-none_or : {F : Type 0} (a b : Option F) → a ≡ None → b ≡ None → or a b ≡ None
+none_or : {F : Type 0} (a b : Option F) → a ≡ None → b ≡ None → or_else a b ≡ None
 none_or (Some f) b e g = absurd cc
 none_or None b e g = g
 
-when_none : {F : Type 0} (test : Bool) (fault : F) → when test fault ≡ None → test ≡ false
+when_none : {F : Type 0} (test : Bool) (fault : F) → fault_if test fault ≡ None → test ≡ false
 when_none true fault e = absurd cc
 when_none false fault e = refl
 
-none_when : {F : Type 0} (test : Bool) (fault : F) → test ≡ false → when test fault ≡ None
+none_when : {F : Type 0} (test : Bool) (fault : F) → test ≡ false → fault_if test fault ≡ None
 none_when true fault e = absurd cc
 none_when false fault e = refl
 
 module _ {F X : Type 0} (test : X → Option F) where
-  over_none : (xs : List X) → first_over test xs ≡ None → AllByRecursion (λ x. test x ≡ None) xs
+  over_none : (xs : List X) → first_in test xs ≡ None → AllByRecursion (λ x. test x ≡ None) xs
   over_none [] e = tt
-  over_none (x ∷ xs) e = let p = or_none (test x) (first_over test xs) e in (p.0, over_none xs p.1)
+  over_none (x ∷ xs) e = let p = or_none (test x) (first_in test xs) e in (p.0, over_none xs p.1)
 
-  none_over : (xs : List X) → AllByRecursion (λ x. test x ≡ None) xs → first_over test xs ≡ None
+  none_over : (xs : List X) → AllByRecursion (λ x. test x ≡ None) xs → first_in test xs ≡ None
   none_over [] a = refl
-  none_over (x ∷ xs) a = none_or (test x) (first_over test xs) a.0 (none_over xs a.1)
+  none_over (x ∷ xs) a = none_or (test x) (first_in test xs) a.0 (none_over xs a.1)
 
 -- ---- what types have that break no rule
 
@@ -96,18 +98,18 @@ module _ (defined : List Text) where
   types_have (Input head fields ∷ ds) a b c = types_have ds a.1 b.1 c.1
   types_have (Directive d ∷ ds) a b c = types_have ds a.1 b.1 c.1
 
-  root_is : (found object : Bool) → when (found && not object) query_root ≡ None → found ≡ true → object ≡ true
+  root_is : (found object : Bool) → fault_if (found && not object) query_root ≡ None → found ≡ true → object ≡ true
   root_is true true e f = refl
   root_is true false e f = absurd cc
   root_is false object e f = absurd cc
 
-  lawful_by : (ds : List Definition) (query : Text) → first (tests ds defined query) ≡ None → AreLawful (plains ds) defined query
+  lawful_by : (ds : List Definition) (query : Text) → first_of (tests ds defined query) ≡ None → AreLawful (plains ds) defined query
   lawful_by ds query e =
-      let a = or_none (first_over name_fault ds) _ e in
+      let a = or_none (first_in name_fault ds) _ e in
       let b = or_none (missing defined query) _ a.1 in
-      let c = or_none (first_over (existence_fault defined) ds) _ b.1 in
+      let c = or_none (first_in (existence_fault defined) ds) _ b.1 in
       let d = or_none (root_fault ds defined query) _ c.1 in
-      let o = or_none (first_over object_fault ds) None d.1 in
+      let o = or_none (first_in object_fault ds) None d.1 in
       let found : exists defined query ≡ true = not_true _ (when_none (not (exists defined query)) _ b.0) in
       record {
         types = types_have ds (over_none name_fault ds a.0) (over_none (existence_fault defined) ds c.0) (over_none object_fault ds o.0);
@@ -154,21 +156,21 @@ module _ (defined : List Text) where
   objects_pass (Input head fields ∷ ds) a = (refl, objects_pass ds a)
   objects_pass (Directive d ∷ ds) a = (refl, objects_pass ds a)
 
-  root_passes : (found object : Bool) → object ≡ true → when (found && not object) query_root ≡ None
+  root_passes : (found object : Bool) → object ≡ true → fault_if (found && not object) query_root ≡ None
   root_passes found true e = by found
     where
-      by : (b : Bool) → when (b && false) query_root ≡ None
+      by : (b : Bool) → fault_if (b && false) query_root ≡ None
       by true = refl
       by false = refl
   root_passes found false e = absurd cc
 
-  by_lawful : (ds : List Definition) (query : Text) → AreLawful (plains ds) defined query → first (tests ds defined query) ≡ None
+  by_lawful : (ds : List Definition) (query : Text) → AreLawful (plains ds) defined query → first_of (tests ds defined query) ≡ None
   by_lawful ds query l =
-      none_or (first_over name_fault ds) _ (none_over name_fault ds (names_pass ds l.types))
+      none_or (first_in name_fault ds) _ (none_over name_fault ds (names_pass ds l.types))
       (none_or (missing defined query) _ (none_when (not (exists defined query)) _ (true_not _ l.found))
-      (none_or (first_over (existence_fault defined) ds) _ (none_over (existence_fault defined) ds (fields_pass ds l.types))
+      (none_or (first_in (existence_fault defined) ds) _ (none_over (existence_fault defined) ds (fields_pass ds l.types))
       (none_or (root_fault ds defined query) _ (root_passes (exists defined query) (is_object ds query) (objects_are ds query ∙ l.root))
-      (none_or (first_over object_fault ds) None (none_over object_fault ds (objects_pass ds l.types)) refl))))
+      (none_or (first_in object_fault ds) None (none_over object_fault ds (objects_pass ds l.types)) refl))))
 
 -- ---- types in another order, with the same names
 

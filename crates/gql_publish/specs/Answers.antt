@@ -1,25 +1,15 @@
--- What the errors of the check stand for.
-use Rattle.std.specs.Prelude.{◌≡◌, Option, Some, None, string_bytes, IfSome, Result, Ok, Err}
-use Rattle.gql_publish.specs.declared.error.SchemaError.{SchemaError}
-use Rattle.gql_publish.specs.declared.error.SchemaError.TheVariants as rule
+-- What an error of the check is for the publisher.
+use Rattle.std.specs.Prelude.{◌≡◌, Option, Some, None}
+use Rattle.gql_dynamic.specs.declared.schema_error.SchemaError.{SchemaError}
+use Rattle.gql_dynamic.specs.Errors.{fault_of}
+use Rattle.gql_rules.specs.Faults.{Fault}
 use Rattle.gql_publish.specs.declared.error.PublishError.{PublishError}
 use Rattle.gql_publish.specs.declared.error.PublishError.TheVariants as publish_error
-use Rattle.gql_publish.specs.Rules.{Fault, already_exists, not_found, query_root, empty_object}
 
--- the broken rule that an error tells, or nothing for want of memory
-abbrev pub fault_of : SchemaError → Option Fault
-fault_of (rule.AlreadyExists name) = Some (already_exists (string_bytes name))
-fault_of (rule.NotFound name) = Some (not_found (string_bytes name))
-fault_of rule.QueryRoot = Some query_root
-fault_of (rule.EmptyObject ty) = Some (empty_object (string_bytes ty))
-fault_of rule.OutOfMemory = None
+abbrev pub published_with : Option Fault → SchemaError → PublishError → Type 0
+published_with None error answer = answer ≡ publish_error.OutOfMemory
+published_with (Some fault) error answer = answer ≡ publish_error.Schema error
 
--- the result tells the first fault, unless memory ran out
-abbrev pub Tells : {T : Type 0} → Result T SchemaError → Option Fault → Type 0
-Tells (Ok x) first = first ≡ None
-Tells (Err error) first = IfSome (fault_of error) (λ fault. first ≡ Some fault)
-
--- what an error of the check is for the publisher
+-- an error that tells a broken rule stands for itself, and want of memory stays what it is
 abbrev pub published_as : SchemaError → PublishError → Type 0
-published_as rule.OutOfMemory error = error ≡ publish_error.OutOfMemory
-published_as broken error = error ≡ publish_error.Schema broken
+published_as error answer = published_with (fault_of error) error answer

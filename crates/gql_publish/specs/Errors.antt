@@ -1,13 +1,11 @@
 -- What the errors of the code stand for, and the lines that tell them.
 use Rattle.std.specs.Prelude.{ℕ, [], ◌∷◌, ◌++◌, string_bytes, codes, decimal, IsSomeAnd}
 use Rattle.std.specs.List.{concat}
-use Rattle.gql_registry.specs.Parts.{Text}
-use Rattle.gql_publish.specs.declared.error.SchemaError.{SchemaError}
-use Rattle.gql_publish.specs.declared.error.SchemaError.TheVariants as rule
+use Rattle.gql_meta.specs.Parts.{Text}
 use Rattle.gql_publish.specs.declared.error.PublishError.{PublishError}
 use Rattle.gql_publish.specs.declared.error.PublishError.TheVariants as publish_error
-use Rattle.gql_publish.specs.Answers.{fault_of}
-use Rattle.gql_publish.specs.Rules.{Fault, already_exists, not_found, query_root, empty_object}
+use Rattle.gql_dynamic.specs.Errors.{fault_of, message_of}
+use Rattle.gql_rules.specs.Faults.{sentence}
 use Rattle.gql_publish.specs.Verdict.{Refusal, unreadable, not_yet, broken}
 use Rattle.gql_syntax.specs.declared.error.ReadError.{ReadError}
 use Rattle.gql_syntax.specs.declared.error.ReadError.TheVariants as read_error
@@ -38,13 +36,6 @@ Refuses Holds publish_error.NotYet = Holds not_yet
 Refuses Holds (publish_error.Schema error) = IsSomeAnd (fault_of error) (λ fault. Holds (broken fault))
 Refuses Holds publish_error.OutOfMemory = Unit {0}
 
--- the sentence of a broken rule
-abbrev pub sentence : Fault → Text
-sentence (already_exists name) = concat (codes "Type \"" ∷ name ∷ codes "\" already exists" ∷ [])
-sentence (not_found name) = concat (codes "Type \"" ∷ name ∷ codes "\" not found" ∷ [])
-sentence query_root = codes "The query root must be an object"
-sentence (empty_object ty) = concat (codes "Object \"" ∷ ty ∷ codes "\" must define one or more fields" ∷ [])
-
 -- ---- lines, each without its line feed
 
 abbrev pub what_text : What → Text
@@ -74,13 +65,6 @@ abbrev pub refusal_line : Refusal → Text
 refusal_line (unreadable error) = read_line error
 refusal_line not_yet = codes "not yet supported"
 refusal_line (broken fault) = sentence fault
-
-abbrev pub message_of : SchemaError → Text
-message_of (rule.AlreadyExists name) = sentence (already_exists (string_bytes name))
-message_of (rule.NotFound name) = sentence (not_found (string_bytes name))
-message_of rule.QueryRoot = sentence query_root
-message_of (rule.EmptyObject ty) = sentence (empty_object (string_bytes ty))
-message_of rule.OutOfMemory = codes "out of memory"
 
 abbrev pub line_of : PublishError → Text
 line_of (publish_error.NotUtf8 at) = read_line (read_error.NotUtf8 at)

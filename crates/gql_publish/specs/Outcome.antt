@@ -2,11 +2,12 @@
 use Rattle.std.specs.Prelude.{◌≡◌, List, Option, Some, None, Result, Ok, Err, MatchResult, if◌then◌else◌, string_bytes}
 use Rattle.std.specs.declared.string.String.{String}
 use Rattle.std.specs.declared.alloc.Global.{Global}
-use Rattle.gql_registry.specs.Parts.{Text}
+use Rattle.gql_meta.specs.Parts.{Text}
 use Rattle.gql_text.specs.declared.document.Definition.{Definition}
 use Rattle.gql_publish.specs.declared.error.PublishError.{PublishError}
 use Rattle.gql_publish.specs.Plain.{are_plain, query_of}
-use Rattle.gql_publish.specs.Rules.{Fault, first_fault}
+use Rattle.gql_publish.specs.Rules.{first_fault}
+use Rattle.gql_rules.specs.Faults.{Fault}
 use Rattle.gql_publish.specs.View.{view_of}
 use Rattle.gql_publish.specs.Spelling.{spell}
 use Rattle.gql_publish.specs.Verdict.{Refusal, Verdict, not_yet, broken}

@@ -1,10 +1,11 @@
 -- Plain documents: at most a schema block with a query line, scalars without decoration, and objects whose fields are a
 -- name and a type. Sections 3.3, 3.5 and 3.6 of the GraphQL specification, October 2021.
-use Rattle.std.specs.Prelude.{Bool, true, false, not, ◌&&◌, ◌||◌, List, [], ◌∷◌, is_none, codes, nat_eq}
-use Rattle.std.specs.List.{list_all, list_any, flat_map, starts_with}
+use Rattle.std.specs.Prelude.{Bool, true, false, not, ◌&&◌, ◌||◌, List, [], ◌∷◌, is_none, codes}
+use Rattle.std.specs.List.{list_all, list_any, flat_map}
 use Rattle.std.specs.Str.{bytes_eq}
-use Rattle.gql_registry.specs.Parts.{Text}
+use Rattle.gql_meta.specs.Parts.{Text}
 use Rattle.gql_publish.specs.Names.{is_among, are_distinct}
+use Rattle.gql_text.specs.Owners.{is_reserved}
 use Rattle.gql_text.specs.declared.document.Definition.{Definition}
 use Rattle.gql_text.specs.declared.document.Definition.TheVariants.{SchemaBlock, Scalar, Object}
 use Rattle.gql_syntax.specs.declared.operation.OperationType.TheVariants.{Query}
@@ -16,10 +17,6 @@ use Rattle.gql_text.specs.declared.document.FieldDef.{FieldDef}
 abbrev pub is_empty : {X : Type 0} → List X → Bool
 is_empty [] = true
 is_empty (x ∷ xs) = false
-
--- names that begin with two underscores are the standard's own: section 2.1.9
-abbrev pub is_reserved : Text → Bool
-is_reserved name = starts_with nat_eq name (codes "__")
 
 -- the name of the type that a definition defines
 abbrev pub type_names_of : Definition → List Text

@@ -3,40 +3,15 @@
 use Rattle.std.specs.Prelude.{Bool, true, false, not, ◌&&◌, ◌||◌, List, [], ◌∷◌, Option, Some, None, codes}
 use Rattle.std.specs.List.{list_any}
 use Rattle.std.specs.Str.{bytes_eq}
-use Rattle.gql_registry.specs.Parts.{Text}
+use Rattle.gql_meta.specs.Parts.{Text}
 use Rattle.gql_text.specs.declared.document.Definition.{Definition}
 use Rattle.gql_text.specs.declared.document.Definition.TheVariants.{Scalar, Object}
 use Rattle.gql_text.specs.declared.document.FieldDef.{FieldDef}
 use Rattle.gql_publish.specs.Names.{is_among}
 use Rattle.gql_publish.specs.Plain.{is_empty, type_names}
+use Rattle.gql_rules.specs.Faults.{Fault, already_exists, not_found, query_root, empty_object}
+use Rattle.gql_rules.specs.Tests.{fault_if, first_of, first_in}
 use Rattle.gql_value.specs.TypeRefs.{reference, innermost}
-
--- a broken rule, with the names that it tells
-pub data Fault : Type 0 where
-  already_exists : (name : Text) → Fault
-  not_found : (name : Text) → Fault
-  query_root : Fault
-  empty_object : (ty : Text) → Fault
-
--- ---- the first of several tests
-
--- a fault where the test holds
-abbrev pub when : {F : Type 0} → Bool → F → Option F
-when true fault = Some fault
-when false fault = None
-
-abbrev pub or : {F : Type 0} → Option F → Option F → Option F
-or (Some fault) more = Some fault
-or None more = more
-
-abbrev pub first : {F : Type 0} → List (Option F) → Option F
-first [] = None
-first (test ∷ tests) = or test (first tests)
-
--- the first fault over the members
-abbrev pub first_over : {F X : Type 0} → (X → Option F) → List X → Option F
-first_over test [] = None
-first_over test (x ∷ xs) = or (test x) (first_over test xs)
 
 -- ---- names
 
@@ -59,12 +34,12 @@ is_object definitions name = list_any (is_object_named name) definitions
 -- ---- the groups of rules
 
 abbrev pub missing : (defined : List Text) → Text → Option Fault
-missing defined name = when (not (exists defined name)) (not_found name)
+missing defined name = fault_if (not (exists defined name)) (not_found name)
 
 -- no type has the name of a system scalar
 abbrev pub name_fault : Definition → Option Fault
-name_fault (Scalar head) = when (is_system_scalar head.name) (already_exists head.name)
-name_fault (Object head implements fields) = when (is_system_scalar head.name) (already_exists head.name)
+name_fault (Scalar head) = fault_if (is_system_scalar head.name) (already_exists head.name)
+name_fault (Object head implements fields) = fault_if (is_system_scalar head.name) (already_exists head.name)
 name_fault _ = None
 
 -- the type of a field exists
@@ -72,26 +47,26 @@ abbrev pub field_missing : (defined : List Text) → FieldDef → Option Fault
 field_missing defined field = missing defined (innermost (reference field.ty))
 
 abbrev pub existence_fault : (defined : List Text) → Definition → Option Fault
-existence_fault defined (Object head implements fields) = first_over (field_missing defined) fields
+existence_fault defined (Object head implements fields) = first_in (field_missing defined) fields
 existence_fault defined _ = None
 
 -- the query root is an object, where it exists
 abbrev pub root_fault : List Definition → (defined : List Text) → Text → Option Fault
-root_fault definitions defined query = when (exists defined query && not (is_object definitions query)) query_root
+root_fault definitions defined query = fault_if (exists defined query && not (is_object definitions query)) query_root
 
 -- an object has a field
 abbrev pub object_fault : Definition → Option Fault
-object_fault (Object head implements fields) = when (is_empty fields) (empty_object head.name)
+object_fault (Object head implements fields) = fault_if (is_empty fields) (empty_object head.name)
 object_fault _ = None
 
 abbrev pub tests : List Definition → (defined : List Text) → Text → List (Option Fault)
 tests definitions defined query =
-    first_over name_fault definitions ∷
+    first_in name_fault definitions ∷
     missing defined query ∷
-    first_over (existence_fault defined) definitions ∷
+    first_in (existence_fault defined) definitions ∷
     root_fault definitions defined query ∷
-    first_over object_fault definitions ∷ []
+    first_in object_fault definitions ∷ []
 
 -- the first broken rule of the definitions, with this name of the query root
 abbrev pub first_fault : List Definition → Text → Option Fault
-first_fault definitions query = first (tests definitions (type_names definitions) query)
+first_fault definitions query = first_of (tests definitions (type_names definitions) query)

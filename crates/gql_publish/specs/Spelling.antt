@@ -1,7 +1,7 @@
 -- The canonical text of a view: its types, its directive definitions, and the schema block.
 use Rattle.std.specs.Prelude.{List, [], ◌∷◌, ◌++◌, map, codes}
 use Rattle.std.specs.List.{flat_map, concat}
-use Rattle.gql_registry.specs.Parts.{Text, Field, Meta, scalar, object}
+use Rattle.gql_meta.specs.Parts.{Text, Field, Meta, scalar, object}
 use Rattle.gql_publish.specs.View.{View, ArgumentView, DirectiveView}
 
 -- texts with another between them
@@ -29,9 +29,11 @@ abbrev pub body_text : List (Text × Field) → Text
 body_text [] = []
 body_text (field ∷ fields) = codes " {\n" ++ (fields_text (field ∷ fields) ++ codes "}")
 
+-- plain documents define scalars and objects alone
 abbrev pub meta_text : Meta → Text
-meta_text (scalar name) = concat (codes "scalar " ∷ name ∷ codes "\n\n" ∷ [])
-meta_text (object name fields) = concat (codes "type " ∷ name ∷ body_text fields ∷ codes "\n\n" ∷ [])
+meta_text (scalar type) = concat (codes "scalar " ∷ type.name ∷ codes "\n\n" ∷ [])
+meta_text (object type) = concat (codes "type " ∷ type.name ∷ body_text type.fields ∷ codes "\n\n" ∷ [])
+meta_text _ = []
 
 abbrev pub types_text : List (Text × Meta) → Text
 types_text types = flat_map (λ entry. meta_text entry.1) types

@@ -4,7 +4,8 @@ use Rattle.gql_syntax.specs.declared.error.ReadError.{ReadError}
 use Rattle.gql_text.specs.declared.document.Document.{Document}
 use Rattle.gql_text.specs.Verdict.{Spells, IsFault}
 use Rattle.gql_publish.specs.Plain.{are_plain, query_of}
-use Rattle.gql_publish.specs.Rules.{Fault, first_fault}
+use Rattle.gql_publish.specs.Rules.{first_fault}
+use Rattle.gql_rules.specs.Faults.{Fault}
 
 -- the bytes spell this document, and it is plain
 pub record IsPlain (bytes : List ℕ) (document : Document) : Type 0 where

@@ -2,7 +2,8 @@
 -- definitions.
 use Rattle.std.specs.Prelude.{List, [], ◌∷◌, map, codes}
 use Rattle.std.specs.List.{flat_map}
-use Rattle.gql_registry.specs.Parts.{Text, Field, Meta, scalar, object}
+use Rattle.gql_meta.specs.Parts.{Text, Field, Meta}
+use Rattle.gql_registry.specs.Plain.{plain_field, plain_scalar, plain_object}
 use Rattle.gql_registry.specs.Registry.{with_types}
 use Rattle.gql_text.specs.declared.document.Definition.{Definition}
 use Rattle.gql_text.specs.declared.document.Definition.TheVariants.{Scalar, Object}
@@ -28,12 +29,12 @@ pub record View : Type 0 where
   pub directives : List DirectiveView
 
 abbrev pub field_entry : FieldDef → Text × Field
-field_entry field = (field.name, record { name = field.name; ty = type_text field.ty })
+field_entry field = (field.name, plain_field field.name (type_text field.ty))
 
--- the type that a definition defines
+-- the type that a definition defines, with nothing that a plain one does not say
 abbrev pub metas_of : Definition → List Meta
-metas_of (Scalar head) = scalar head.name ∷ []
-metas_of (Object head implements fields) = object head.name (map field_entry fields) ∷ []
+metas_of (Scalar head) = plain_scalar head.name ∷ []
+metas_of (Object head implements fields) = plain_object head.name (map field_entry fields) ∷ []
 metas_of _ = []
 
 abbrev pub metas : List Definition → List Meta

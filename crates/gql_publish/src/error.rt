@@ -1,70 +1,13 @@
 //! Why bytes are not published.
 
 ghost use Rattle.std.specs.Prelude.{◌≡◌, ◌++◌, codes, IfOk, string_bytes};
-ghost use Rattle.gql_publish.specs.declared.error.SchemaError.TheVariants.{OutOfMemory as schema_memory};
 ghost use Rattle.gql_publish.specs.declared.error.PublishError.TheVariants.{OutOfMemory as publish_memory};
 ghost use Rattle.gql_publish.specs.Answers.{published_as};
-ghost use Rattle.gql_publish.specs.Errors.{message_of, read_as, what_text, at_line, line_of};
+ghost use Rattle.gql_publish.specs.Errors.{read_as, what_text, at_line, line_of};
 
+use gql_dynamic::SchemaError;
 use gql_text::{OutOfMemory, ReadError, Text, What};
-use std::alloc::{AllocError, AllocFailed, Global};
-
-/// The first broken rule of a schema, with the names that it tells.
-#[derive(Debug, Drop)]
-pub enum SchemaError {
-    /// A type has the name of a system scalar.
-    AlreadyExists { name: String },
-    /// No type of this name is defined.
-    NotFound { name: String },
-    /// The type of the query root is not an object.
-    QueryRoot,
-    /// An object has no field.
-    EmptyObject { ty: String },
-    OutOfMemory,
-}
-
-impl SchemaError {
-    /// The sentence that tells the error.
-    pub fn message(&self, alloc: Global) -> Result<String, OutOfMemory>
-        ensures { IfOk result (λ text. string_bytes text ≡ message_of self.now) }
-    {
-        Ok(match self {
-            SchemaError::AlreadyExists { name } => {
-                format!(in alloc; "Type \"{name}\" already exists")?
-            }
-            SchemaError::NotFound { name } => format!(in alloc; "Type \"{name}\" not found")?,
-            SchemaError::QueryRoot => String::from_str(alloc, "The query root must be an object")?,
-            SchemaError::EmptyObject { ty } => {
-                format!(in alloc; "Object \"{ty}\" must define one or more fields")?
-            }
-            SchemaError::OutOfMemory => String::from_str(alloc, "out of memory")?,
-        })
-    }
-}
-
-impl From<OutOfMemory> for SchemaError {
-    ghost from_gives = { λ _ e. e ≡ schema_memory };
-
-    fn from(_: OutOfMemory) -> SchemaError {
-        SchemaError::OutOfMemory
-    }
-}
-
-impl From<AllocError> for SchemaError {
-    ghost from_gives = { λ _ e. e ≡ schema_memory };
-
-    fn from(_: AllocError) -> SchemaError {
-        SchemaError::OutOfMemory
-    }
-}
-
-impl<T: Drop> From<AllocFailed<T>> for SchemaError {
-    ghost from_gives = { λ _ e. e ≡ schema_memory };
-
-    fn from(_: AllocFailed<T>) -> SchemaError {
-        SchemaError::OutOfMemory
-    }
-}
+use std::alloc::{AllocError, Global};
 
 /// Why `publish` gives no text. A number is the place of the fault, a byte offset.
 #[derive(Debug, Drop)]

@@ -10,7 +10,8 @@ mod publishing;
 mod registration;
 mod rules;
 
-pub use error::{PublishError, SchemaError, fault_line};
+pub use error::{PublishError, fault_line};
+pub use gql_dynamic::SchemaError;
 pub use gql_streams::{
     Failed, MemorySink, MemorySource, Sink, Source, StdSink, StdSource, SureSink, SureSource,
 };

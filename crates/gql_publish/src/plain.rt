@@ -2,13 +2,15 @@
 
 ghost use Rattle.std.specs.Prelude.{◌≡◌, ◌++◌, if◌then◌else◌, true, false, IfOk, MatchOption};
 ghost use Rattle.std.specs.List.{list_all, list_any};
-ghost use Rattle.gql_publish.specs.Plain.{is_reserved, type_names_of, type_names, field_names_of, field_names, is_query, is_bare, is_plain_field, is_query_line, is_plain_definition, is_schema_block, has_only_query, are_plain};
+ghost use Rattle.gql_publish.specs.Plain.{type_names_of, type_names, field_names_of, field_names, is_query, is_bare, is_plain_field, is_query_line, is_plain_definition, is_schema_block, has_only_query, are_plain};
 ghost use Rattle.gql_publish.specs.Names.{are_new, are_distinct};
+ghost use Rattle.gql_text.specs.Owners.{is_reserved};
 
 use crate::names::Names;
 use gql_text::{Definition, FieldDef, OperationType, OutOfMemory, RootLine, TypeHead};
 use std::alloc::Global;
 
+#[tactic(auto, unfolding(gql_text::specs::Owners::is_reserved))]
 fn is_reserved(name: &str) -> bool
     ensures { result ≡ is_reserved name.now }
 {

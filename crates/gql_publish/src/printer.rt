@@ -2,7 +2,7 @@
 
 ghost use Rattle.std.specs.Prelude.{◌≡◌, ◌++◌, IfOk, OnOk, string_bytes};
 ghost use Rattle.std.specs.List.{flat_map};
-ghost use Rattle.gql_registry.specs.Meta.{meta_of, field_of, entries_of};
+ghost use Rattle.gql_meta.specs.Views.{meta_of, field_of, entries_of};
 ghost use Rattle.gql_registry.specs.Registry.{types_of, query_of};
 ghost use Rattle.gql_publish.specs.View.{system_directives};
 ghost use Rattle.gql_publish.specs.Spelling.{field_text, fields_text, body_text, meta_text, types_text, directives_text, schema_text, spell};
@@ -68,13 +68,14 @@ fn push_type(out: &mut String, ty: &MetaType) -> Result<(), AllocError>
     ensures { OnOk result (string_bytes out.new ≡ string_bytes out.old ++ meta_text (meta_of ty.now)) }
 {
     match ty {
-        MetaType::Scalar { name } => push_all(out, &["scalar ", name.as_str(), "\n\n"]),
-        MetaType::Object { name, fields } => {
+        MetaType::Scalar { name, .. } => push_all(out, &["scalar ", name.as_str(), "\n\n"]),
+        MetaType::Object { name, fields, .. } => {
             out.push_str("type ")?;
             out.push_str(name.as_str())?;
             push_body(out, fields)?;
             out.push_str("\n\n")
         }
+        _ => Ok(()),
     }
 }
 

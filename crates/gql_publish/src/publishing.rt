@@ -14,8 +14,9 @@ ghost use Rattle.gql_publish.specs.Outcome.{outcome, Gives};
 use crate::error::PublishError;
 use crate::plain::plain_type_names;
 use crate::printer::printed;
-use crate::registration::registered;
+use crate::registration::register;
 use crate::rules::check;
+use gql_registry::Registry;
 use gql_text::{Definition, RootLine, read_sdl};
 use std::alloc::Global;
 
@@ -51,7 +52,8 @@ fn publish_definitions(alloc: Global, definitions: &[Definition]) -> Result<Stri
     if let Err(error) = check(alloc, definitions, &names, query) {
         return Err(PublishError::from(error));
     }
-    let registry = registered(alloc, definitions, query)?;
+    let mut registry = Registry::new(alloc);
+    register(alloc, &mut registry, definitions, query)?;
     Ok(printed(alloc, &registry)?)
 }
 

@@ -1,14 +1,15 @@
-//! The registry of small definitions.
+//! Registers plain definitions.
 
 ghost use Rattle.std.specs.Prelude.{◌≡◌, ◌++◌, ◌∷◌, [], IfOk, OnOk, map, true, false};
 ghost use Rattle.std.specs.List.{list_all};
-ghost use Rattle.gql_registry.specs.Meta.{entries_of, field_of, meta_of};
+ghost use Rattle.gql_meta.specs.Views.{entries_of, field_of, meta_of};
 ghost use Rattle.gql_registry.specs.Registry.{types_of, query_of as query_name, with_types};
+ghost use Rattle.gql_registry.specs.Plain.{plain_scalar, plain_object};
 ghost use Rattle.gql_publish.specs.Names.{is_among, keys_in, are_distinct};
 ghost use Rattle.gql_publish.specs.Plain.{field_names, is_plain_definition};
 ghost use Rattle.gql_publish.specs.View.{field_entry, metas_of, metas};
 
-use gql_registry::{MetaField, MetaType, Registry};
+use gql_registry::{CacheControl, Deprecation, MetaField, MetaType, Registry};
 use gql_text::{Definition, FieldDef, OutOfMemory};
 use indexmap::IndexMap;
 use std::alloc::Global;
@@ -18,7 +19,21 @@ fn meta_field(alloc: Global, field: &FieldDef) -> Result<MetaField, OutOfMemory>
 {
     Ok(MetaField {
         name: String::from_str(alloc, field.name.as_str())?,
+        description: None,
+        args: IndexMap::new(alloc),
         ty: field.ty.to_string(alloc)?,
+        deprecation: Deprecation::NoDeprecated,
+        cache_control: CacheControl::default(),
+        external: false,
+        requires_fields: None,
+        provides: None,
+        visible: None,
+        shareable: false,
+        inaccessible: false,
+        tags: Vec::new(alloc),
+        override_from: None,
+        directive_invocations: Vec::new(alloc),
+        requires_scopes: Vec::new(alloc),
     })
 }
 
@@ -49,6 +64,48 @@ fn meta_fields(
     Ok(made)
 }
 
+fn plain_scalar(alloc: Global, name: &str) -> Result<MetaType, OutOfMemory>
+    ensures { IfOk result (λ ty. meta_of ty ≡ plain_scalar name.now) }
+{
+    Ok(MetaType::Scalar {
+        name: String::from_str(alloc, name)?,
+        description: None,
+        is_valid: None,
+        visible: None,
+        inaccessible: false,
+        tags: Vec::new(alloc),
+        specified_by_url: None,
+        directive_invocations: Vec::new(alloc),
+        requires_scopes: Vec::new(alloc),
+    })
+}
+
+fn plain_object(
+    alloc: Global,
+    name: &str,
+    fields: IndexMap<String, MetaField>,
+) -> Result<MetaType, OutOfMemory>
+    ensures { IfOk result (λ ty. meta_of ty ≡ plain_object name.now (entries_of field_of fields.entries)) }
+{
+    Ok(MetaType::Object {
+        name: String::from_str(alloc, name)?,
+        description: None,
+        fields,
+        cache_control: CacheControl::default(),
+        extends: false,
+        shareable: false,
+        resolvable: true,
+        keys: None,
+        visible: None,
+        inaccessible: false,
+        interface_object: false,
+        tags: Vec::new(alloc),
+        is_subscription: false,
+        directive_invocations: Vec::new(alloc),
+        requires_scopes: Vec::new(alloc),
+    })
+}
+
 fn add_type(
     alloc: Global,
     registry: &mut Registry,
@@ -60,34 +117,44 @@ fn add_type(
 {
     match definition {
         Definition::Scalar(head) => {
-            let name = String::from_str(alloc, head.name.as_str())?;
-            registry.insert_type(MetaType::Scalar { name })?;
+            registry.insert_type(plain_scalar(alloc, head.name.as_str())?)?;
             Ok(())
         }
         Definition::Object { head, fields, .. } => {
-            let name = String::from_str(alloc, head.name.as_str())?;
             let fields = meta_fields(alloc, fields.as_slice())?;
-            registry.insert_type(MetaType::Object { name, fields })?;
+            registry.insert_type(plain_object(alloc, head.name.as_str(), fields)?)?;
             Ok(())
         }
         _ => Ok(()),
     }
 }
 
-/// The registry of small definitions, with this name of the query root.
-pub(crate) fn registered(
+fn add_types(
     alloc: Global,
+    registry: &mut Registry,
+    definitions: &[Definition],
+) -> Result<(), OutOfMemory>
+    requires { list_all is_plain_definition definitions.now ≡ true }
+    ensures types { OnOk result (types_of registry.new ≡ with_types (types_of registry.old) (metas definitions.now)) }
+    ensures query { query_name registry.new ≡ query_name registry.old }
+{
+    for definition in definitions {
+        add_type(alloc, registry, definition)?;
+    }
+    Ok(())
+}
+
+/// Registers plain definitions in their order, with this name of the query root.
+pub(crate) fn register(
+    alloc: Global,
+    registry: &mut Registry,
     definitions: &[Definition],
     query: &str,
-) -> Result<Registry, OutOfMemory>
+) -> Result<(), OutOfMemory>
     requires { list_all is_plain_definition definitions.now ≡ true }
-    ensures types { IfOk result (λ registry. types_of registry ≡ with_types [] (metas definitions.now)) }
-    ensures query { IfOk result (λ registry. query_name registry ≡ query.now) }
+    ensures types { OnOk result (types_of registry.new ≡ with_types (types_of registry.old) (metas definitions.now)) }
+    ensures query { OnOk result (query_name registry.new ≡ query.now) }
 {
-    let mut registry = Registry::new(alloc);
     registry.set_query_type(query)?;
-    for definition in definitions {
-        add_type(alloc, &mut registry, definition)?;
-    }
-    Ok(registry)
+    add_types(alloc, registry, definitions)
 }

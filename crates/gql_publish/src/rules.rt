@@ -1,11 +1,13 @@
 //! The rules of a schema, in their order. Each function answers the first broken rule of its group.
 
 ghost use Rattle.std.specs.Prelude.{◌≡◌};
-ghost use Rattle.gql_publish.specs.Rules.{when, first_over, is_system_scalar, exists, is_object_named, is_object, already_exists, missing, name_fault, field_missing, existence_fault, root_fault, object_fault, first, tests};
-ghost use Rattle.gql_publish.specs.Answers.{Tells};
+ghost use Rattle.gql_rules.specs.Faults.{already_exists};
+ghost use Rattle.gql_rules.specs.Tests.{fault_if, first_in, first_of};
+ghost use Rattle.gql_dynamic.specs.Errors.{Tells};
+ghost use Rattle.gql_publish.specs.Rules.{is_system_scalar, exists, is_object_named, is_object, missing, name_fault, field_missing, existence_fault, root_fault, object_fault, tests};
 
-use crate::error::SchemaError;
 use crate::names::Names;
+use gql_dynamic::SchemaError;
 use gql_text::{Definition, FieldDef};
 use std::alloc::Global;
 
@@ -22,7 +24,7 @@ fn exists(defined: &Names<'_>, name: &str) -> bool
 }
 
 fn check_name(alloc: Global, name: &str) -> Result<(), SchemaError>
-    ensures { Tells result (when (is_system_scalar name.now) (already_exists name.now)) }
+    ensures { Tells result (fault_if (is_system_scalar name.now) (already_exists name.now)) }
 {
     if is_system_scalar(name) {
         return Err(SchemaError::AlreadyExists {
@@ -44,7 +46,7 @@ fn check_type_name(alloc: Global, definition: &Definition) -> Result<(), SchemaE
 
 #[tactic(auto, using(crate::proofs::Firsts::first_step))]
 fn check_type_names(alloc: Global, definitions: &[Definition]) -> Result<(), SchemaError>
-    ensures { Tells result (first_over name_fault definitions.now) }
+    ensures { Tells result (first_in name_fault definitions.now) }
 {
     for definition in definitions {
         check_type_name(alloc, definition)?;
@@ -66,7 +68,7 @@ fn check_exists(alloc: Global, defined: &Names<'_>, name: &str) -> Result<(), Sc
 /// The type of each field exists.
 #[tactic(auto, using(crate::proofs::Firsts::first_step))]
 fn check_fields(alloc: Global, defined: &Names<'_>, fields: &[FieldDef]) -> Result<(), SchemaError>
-    ensures { Tells result (first_over (field_missing defined.now) fields.now) }
+    ensures { Tells result (first_in (field_missing defined.now) fields.now) }
 {
     for field in fields {
         check_exists(alloc, defined, field.ty.type_name())?;
@@ -93,7 +95,7 @@ fn check_existence(
     defined: &Names<'_>,
     definitions: &[Definition],
 ) -> Result<(), SchemaError>
-    ensures { Tells result (first_over (existence_fault defined.now) definitions.now) }
+    ensures { Tells result (first_in (existence_fault defined.now) definitions.now) }
 {
     for definition in definitions {
         check_field_types(alloc, defined, definition)?;
@@ -145,7 +147,7 @@ fn check_object(alloc: Global, definition: &Definition) -> Result<(), SchemaErro
 
 #[tactic(auto, using(crate::proofs::Firsts::first_step))]
 fn check_objects(alloc: Global, definitions: &[Definition]) -> Result<(), SchemaError>
-    ensures { Tells result (first_over object_fault definitions.now) }
+    ensures { Tells result (first_in object_fault definitions.now) }
 {
     for definition in definitions {
         check_object(alloc, definition)?;
@@ -160,7 +162,7 @@ pub(crate) fn check(
     defined: &Names<'_>,
     query: &str,
 ) -> Result<(), SchemaError>
-    ensures { Tells result (first (tests definitions.now defined.now query.now)) }
+    ensures { Tells result (first_of (tests definitions.now defined.now query.now)) }
 {
     check_type_names(alloc, definitions)?;
     check_exists(alloc, defined, query)?;

@@ -1,14 +1,20 @@
-//! Meta types, and the registry of them.
+//! The registry of a schema: its types, its directives and its roots.
 #![tactic(auto)]
 
-mod copies;
-mod field;
-mod meta_type;
+mod additions;
+mod introspection;
+mod lists;
+mod optional;
+mod plain;
 mod registry;
+mod system;
 #[cfg(test)]
 mod tests;
 
-pub use field::MetaField;
-pub use gql_text::OutOfMemory;
-pub use meta_type::MetaType;
+pub use gql_meta::{
+    CacheControl, ConstValue, Context, Deprecation, DirectiveLocation, Everything,
+    IntrospectionMode, MetaDirective, MetaDirectiveInvocation, MetaEnumValue, MetaField,
+    MetaInputValue, MetaType, MetaTypeId, MetaTypeName, OutOfMemory, ScalarValidator, TypeRef,
+    holds_twice, is_shown, merge_laws, printed_levels,
+};
 pub use registry::Registry;

@@ -1,35 +1,51 @@
 //! The registry of a schema.
 
-ghost use Rattle.std.specs.Prelude.{◌≡◌, IfOk, OnOk, OnErr, []};
+ghost use Rattle.std.specs.Prelude.{◌≡◌, ◌≢◌, IfOk, OnOk, OnErr, Some, map};
 ghost use Rattle.std.specs.Option.{option_map};
-ghost use Rattle.gql_registry.specs.Registry.{types_of, query_of, with_type};
-ghost use Rattle.gql_registry.specs.Meta.{meta_of, entries_of};
-ghost use Rattle.gql_registry.specs.Parts.{name_of, at_text};
+ghost use Rattle.gql_registry.specs.Registry.{HasOnce, registry_of, empty, types_of, query_of, names_of, listed};
+ghost use Rattle.gql_registry.specs.Registry.{with_type, with_directive, with_implements, with_all_implements};
+ghost use Rattle.gql_meta.specs.Parts.{Text, name_of, at_text};
+ghost use Rattle.gql_meta.specs.Views.{text_of, entries_of, meta_of, directive_of};
 
-use crate::meta_type::MetaType;
-use gql_text::OutOfMemory;
+use crate::lists::{add_to_list, make_listing, put_both};
+use crate::optional::{copied, lent};
+use gql_lexer::OutOfMemory;
+use gql_meta::{IntrospectionMode, MetaDirective, MetaType};
+use indexmap::IndexSet;
 use std::alloc::Global;
 use std::collections::BTreeMap;
 
-/// The types of a schema, each under its name and in name order, and the name of its query root.
+/// The types and directives of a schema, each under its name and in name order, the interfaces that each type
+/// implements, and the names of the roots.
 #[derive(Drop)]
 pub struct Registry {
     alloc: Global,
-    types: BTreeMap<String, MetaType>,
-    query_type: String,
+    pub(crate) types: BTreeMap<String, MetaType>,
+    directives: BTreeMap<String, MetaDirective>,
+    implements: BTreeMap<String, IndexSet<String>>,
+    pub(crate) query_type: String,
+    mutation_type: Option<String>,
+    subscription_type: Option<String>,
+    introspection_mode: IntrospectionMode,
+    federation_subscription: bool,
 }
 
 impl Registry {
-    /// A registry without types, and with the empty query name.
+    /// A registry without types, directives and roots other than the empty query name, in mode `Enabled`.
     pub fn new(alloc: Global) -> Registry
-        ensures types { types_of result ≡ [] }
-        ensures query { query_of result ≡ [] }
+        ensures contents { registry_of result ≡ empty }
         ensures allocator { result.alloc ≡ alloc }
     {
         Registry {
             alloc,
             types: BTreeMap::new(alloc),
+            directives: BTreeMap::new(alloc),
+            implements: BTreeMap::new(alloc),
             query_type: String::new(alloc),
+            mutation_type: None,
+            subscription_type: None,
+            introspection_mode: IntrospectionMode::Enabled,
+            federation_subscription: false,
         }
     }
 
@@ -46,30 +62,154 @@ impl Registry {
         &self.types
     }
 
+    pub fn directives(&self) -> &BTreeMap<String, MetaDirective>
+        ensures { entries_of directive_of result.now.entries ≡ (registry_of self.now).directives }
+    {
+        &self.directives
+    }
+
+    /// The names of the interfaces that a type implements, in the order in which they were added; none where none was.
+    pub fn implements_of(&self, ty: &str) -> Option<&IndexSet<String>>
+        ensures { option_map (λ names. names_of names.now) result ≡ at_text ty.now (registry_of self.now).implements }
+    {
+        self.implements.get(ty)
+    }
+
     pub fn query_type(&self) -> &str
         ensures { result.now ≡ query_of self.now }
     {
         self.query_type.as_str()
     }
 
+    pub fn mutation_type(&self) -> Option<&str>
+        ensures { option_map (λ name. name.now) result ≡ (registry_of self.now).mutation }
+    {
+        lent(&self.mutation_type)
+    }
+
+    pub fn subscription_type(&self) -> Option<&str>
+        ensures { option_map (λ name. name.now) result ≡ (registry_of self.now).subscription }
+    {
+        lent(&self.subscription_type)
+    }
+
+    pub fn introspection_mode(&self) -> IntrospectionMode
+        ensures { result ≡ (registry_of self.now).introspection }
+    {
+        self.introspection_mode
+    }
+
+    /// Whether the subscription root is part of the text for federation.
+    pub fn federation_subscription(&self) -> bool
+        ensures { result ≡ (registry_of self.now).federation_subscription }
+    {
+        self.federation_subscription
+    }
+
     pub fn set_query_type(&mut self, name: &str) -> Result<(), OutOfMemory>
+        ensures contents { OnOk result (registry_of self.new ≡ record (registry_of self.old) { query = name.now }) }
         ensures query { OnOk result (query_of self.new ≡ name.now) }
         ensures types { types_of self.new ≡ types_of self.old }
-        ensures err { OnErr result (query_of self.new ≡ query_of self.old) }
+        ensures err { OnErr result (registry_of self.new ≡ registry_of self.old) }
     {
         self.query_type = String::from_str(self.alloc, name)?;
         Ok(())
     }
 
+    pub fn set_mutation_type(&mut self, name: Option<&str>) -> Result<(), OutOfMemory>
+        ensures contents { OnOk result (registry_of self.new ≡ record (registry_of self.old) { mutation = option_map (λ name. name.now) name.entry }) }
+        ensures err { OnErr result (registry_of self.new ≡ registry_of self.old) }
+    {
+        self.mutation_type = copied(self.alloc, name)?;
+        Ok(())
+    }
+
+    pub fn set_subscription_type(&mut self, name: Option<&str>) -> Result<(), OutOfMemory>
+        ensures contents { OnOk result (registry_of self.new ≡ record (registry_of self.old) { subscription = option_map (λ name. name.now) name.entry }) }
+        ensures err { OnErr result (registry_of self.new ≡ registry_of self.old) }
+    {
+        self.subscription_type = copied(self.alloc, name)?;
+        Ok(())
+    }
+
+    pub fn set_introspection_mode(&mut self, mode: IntrospectionMode)
+        ensures { registry_of self.new ≡ record (registry_of self.old) { introspection = mode } }
+    {
+        self.introspection_mode = mode;
+    }
+
+    pub fn set_federation_subscription(&mut self, on: bool)
+        ensures { registry_of self.new ≡ record (registry_of self.old) { federation_subscription = on } }
+    {
+        self.federation_subscription = on;
+    }
+
     /// Puts a type under its name, and answers the one that stood there.
-    #[tactic(auto, using(crate::proofs::Entries::entries_with_entry))]
     pub fn insert_type(&mut self, ty: MetaType) -> Result<Option<MetaType>, OutOfMemory>
         ensures before { IfOk result (λ before. option_map meta_of before ≡ at_text (name_of (meta_of ty)) (types_of self.old)) }
+        ensures contents { OnOk result (registry_of self.new ≡ record (registry_of self.old) { types = with_type (types_of self.old) (meta_of ty) }) }
         ensures types { OnOk result (types_of self.new ≡ with_type (types_of self.old) (meta_of ty)) }
         ensures query { query_of self.new ≡ query_of self.old }
-        ensures err { OnErr result (types_of self.new ≡ types_of self.old) }
+        ensures err { OnErr result (registry_of self.new ≡ registry_of self.old) }
     {
         let name = String::from_str(self.alloc, ty.name())?;
         Ok(self.types.insert(name, ty)?)
+    }
+
+    pub(crate) fn put_type(&mut self, ty: MetaType) -> Result<(), OutOfMemory>
+        ensures contents { OnOk result (registry_of self.new ≡ record (registry_of self.old) { types = with_type (types_of self.old) (meta_of ty) }) }
+        ensures err { OnErr result (registry_of self.new ≡ registry_of self.old) }
+    {
+        match self.insert_type(ty) {
+            Ok(_) => Ok(()),
+            Err(e) => Err(e),
+        }
+    }
+
+    /// Puts a directive under its name, in the place of one that stood there.
+    pub fn add_directive(&mut self, directive: MetaDirective) -> Result<(), OutOfMemory>
+        ensures contents { OnOk result (registry_of self.new ≡ record (registry_of self.old) { directives = with_directive (registry_of self.old).directives (directive_of directive) }) }
+        ensures err { OnErr result (registry_of self.new ≡ registry_of self.old) }
+    {
+        let name = String::from_str(self.alloc, directive.name.as_str())?;
+        self.directives.insert(name, directive)?;
+        Ok(())
+    }
+
+    /// Notes that a type implements an interface: a new one goes last in the type's list, and one that is in it keeps
+    /// its place.
+    pub fn add_implements(&mut self, ty: &str, interface: &str) -> Result<(), OutOfMemory>
+        ensures contents { OnOk result (registry_of self.new ≡ record (registry_of self.old) { implements = with_implements ty.now (registry_of self.old).implements interface.now }) }
+        ensures once { OnOk result (HasOnce (listed ty.now (registry_of self.new).implements) interface.now) }
+        ensures others { OnOk result ((other : Text) → other ≢ ty.now → at_text other (registry_of self.new).implements ≡ at_text other (registry_of self.old).implements) }
+        ensures err { OnErr result (registry_of self.new ≡ registry_of self.old) }
+    {
+        add_to_list(self.alloc, &mut self.implements, ty, interface)
+    }
+
+    /// Puts a type under its name, and then notes each of the interfaces for it, in order: all of that, or nothing.
+    pub fn add_type(
+        &mut self,
+        ty: MetaType,
+        interfaces: &IndexSet<String>,
+    ) -> Result<(), OutOfMemory>
+        ensures contents { OnOk result (registry_of self.new ≡ record (registry_of self.old) {
+          types = with_type (types_of self.old) (meta_of ty);
+          implements = with_all_implements (name_of (meta_of ty)) (registry_of self.old).implements (names_of interfaces.now);
+        }) }
+        ensures err { OnErr result (registry_of self.new ≡ registry_of self.old) }
+    {
+        if interfaces.is_empty() {
+            return self.put_type(ty);
+        }
+        let listing = make_listing(self.alloc, &self.implements, ty.name(), interfaces)?;
+        put_both(
+            &mut self.types,
+            &mut self.implements,
+            listing.name,
+            ty,
+            listing.key,
+            listing.names,
+        )
     }
 }

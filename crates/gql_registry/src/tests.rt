@@ -1,121 +1,136 @@
 //! What no clause says: that these calls are not refused where there is memory.
 
-use crate::{MetaField, MetaType, OutOfMemory, Registry};
-use indexmap::IndexMap;
+use crate::plain::{directive, object, scalar};
+use crate::{MetaType, OutOfMemory, Registry};
+use indexmap::{IndexMap, IndexSet};
 use std::alloc::Global;
 
-fn field(alloc: Global, name: &str, ty: &str) -> Result<MetaField, OutOfMemory> {
-    Ok(MetaField {
-        name: String::from_str(alloc, name)?,
-        ty: String::from_str(alloc, ty)?,
-    })
-}
-
-fn scalar(alloc: Global, name: &str) -> Result<MetaType, OutOfMemory> {
-    Ok(MetaType::Scalar {
-        name: String::from_str(alloc, name)?,
-    })
-}
-
-fn object(alloc: Global, name: &str, of: &[(&str, &str)]) -> Result<MetaType, OutOfMemory> {
-    let mut fields = IndexMap::new(alloc);
-    for (name, ty) in of {
-        fields.insert(String::from_str(alloc, name)?, field(alloc, name, ty)?)?;
+fn names(alloc: Global, of: &[&str]) -> Result<IndexSet<String>, OutOfMemory> {
+    let mut names = IndexSet::new(alloc);
+    for name in of {
+        names.insert(String::from_str(alloc, name)?)?;
     }
-    Ok(MetaType::Object {
-        name: String::from_str(alloc, name)?,
-        fields,
-    })
+    Ok(names)
 }
 
-/// The name of a type, and the name and type of each field.
-fn outline(alloc: Global, ty: &MetaType) -> Result<String, OutOfMemory> {
-    let mut out = String::from_str(alloc, ty.name())?;
-    if let Some(fields) = ty.fields() {
+fn empty_object(alloc: Global, name: &str) -> Result<MetaType, OutOfMemory> {
+    object(alloc, name, IndexMap::new(alloc))
+}
+
+/// The names of the types and of the directives, in the order of the registry.
+fn outline(alloc: Global, registry: &Registry) -> Result<String, OutOfMemory> {
+    let mut out = String::new(alloc);
+    for ty in registry.types().values() {
+        out.push_str(ty.name())?;
+        out.push_str(" ")?;
+    }
+    for directive in registry.directives().values() {
+        out.push_str("@")?;
+        out.push_str(directive.name.as_str())?;
+        out.push_str(" ")?;
+    }
+    Ok(out)
+}
+
+/// The names that a type implements, each with a space before it.
+fn interfaces(alloc: Global, registry: &Registry, ty: &str) -> Result<String, OutOfMemory> {
+    let mut out = String::new(alloc);
+    if let Some(names) = registry.implements_of(ty) {
+        for name in names.iter() {
+            out.push_str(" ")?;
+            out.push_str(name.as_str())?;
+        }
+    }
+    Ok(out)
+}
+
+/// The names of the fields of an object, each with a space before it.
+fn fields(alloc: Global, registry: &Registry, ty: &str) -> Result<String, OutOfMemory> {
+    let mut out = String::new(alloc);
+    if let Some(MetaType::Object { fields, .. }) = registry.types().get(ty) {
         for field in fields.values() {
             out.push_str(" ")?;
             out.push_str(field.name.as_str())?;
-            out.push_str(":")?;
-            out.push_str(field.ty.as_str())?;
         }
     }
     Ok(out)
 }
 
-/// The outlines of all types in the order of the registry, and the name of the query root.
-fn contents(alloc: Global, registry: &Registry) -> Result<String, OutOfMemory> {
-    let mut out = String::new(alloc);
-    for ty in registry.types().values() {
-        out.push_str(outline(alloc, ty)?.as_str())?;
-        out.push_str("; ")?;
-    }
-    out.push_str(registry.query_type())?;
-    Ok(out)
-}
-
 #[test]
-fn copies_have_equal_parts(rt: HostRuntime) {
-    let alloc = rt.alloc();
-    let rows = [
-        (scalar(alloc, "Money"), "Money"),
-        (object(alloc, "Empty", &[]), "Empty"),
-        (
-            object(alloc, "Query", &[("b", "Int!"), ("a", "[ID]")]),
-            "Query b:Int! a:[ID]",
-        ),
-    ];
-    for (ty, want) in rows {
-        let copy = ty
-            .expect(&rt, "memory")
-            .try_clone(alloc)
-            .expect(&rt, "memory");
-        assert_eq!(rt; outline(alloc, &copy).expect(&rt, "memory").as_str(), want);
-    }
-    let copy = field(alloc, "a", "[ID]")
-        .expect(&rt, "memory")
-        .try_clone(alloc)
+fn roots_are_set(rt: HostRuntime) {
+    let mut registry = Registry::new(rt.alloc());
+    assert_eq!(rt; registry.query_type(), "");
+    registry.set_query_type("Q").expect(&rt, "memory");
+    registry.set_mutation_type(Some("M")).expect(&rt, "memory");
+    registry
+        .set_subscription_type(Some("S"))
         .expect(&rt, "memory");
-    assert_eq!(rt; copy.name.as_str(), "a");
-    assert_eq!(rt; copy.ty.as_str(), "[ID]");
+    assert_eq!(rt; registry.query_type(), "Q");
+    assert_eq!(rt; registry.mutation_type(), Some("M"));
+    assert_eq!(rt; registry.subscription_type(), Some("S"));
 }
 
 #[test]
-fn types_stand_in_name_order_and_one_replaces_its_namesake(rt: HostRuntime) {
+fn types_and_directives_stand_in_name_order(rt: HostRuntime) {
     let mut registry = Registry::new(rt.alloc());
     let alloc = registry.allocator();
-    assert_eq!(rt;
-        contents(alloc, &registry).expect(&rt, "memory").as_str(),
-        ""
-    );
-    registry.set_query_type("Query").expect(&rt, "memory");
-    let rows = [
-        (scalar(alloc, "b"), None, "b; Query"),
-        (
-            object(alloc, "Query", &[("v", "b")]),
-            None,
-            "Query v:b; b; Query",
-        ),
-        (scalar(alloc, "B"), None, "B; Query v:b; b; Query"),
-        (
-            scalar(alloc, "Query"),
-            Some("Query v:b"),
-            "B; Query; b; Query",
-        ),
-    ];
-    for (ty, want, contains) in rows {
-        let before = registry
-            .insert_type(ty.expect(&rt, "memory"))
-            .expect(&rt, "memory");
-        match before {
-            None => assert_eq!(rt; want, None),
-            Some(ty) => assert_eq!(rt;
-                Some(outline(alloc, &ty).expect(&rt, "memory").as_str()),
-                want
-            ),
-        }
-        assert_eq!(rt;
-            contents(alloc, &registry).expect(&rt, "memory").as_str(),
-            contains
-        );
+    for name in ["b", "Query", "B", "Query"] {
+        let ty = scalar(alloc, name).expect(&rt, "memory");
+        registry.insert_type(ty).expect(&rt, "memory");
     }
+    for name in ["y", "x", "y"] {
+        let made = directive(alloc, name, "", &[], None).expect(&rt, "memory");
+        registry.add_directive(made).expect(&rt, "memory");
+    }
+    let outline = outline(alloc, &registry).expect(&rt, "memory");
+    assert_eq!(rt; outline.as_str(), "B Query b @x @y ");
+}
+
+#[test]
+fn an_interface_is_noted_once(rt: HostRuntime) {
+    let mut registry = Registry::new(rt.alloc());
+    let alloc = registry.allocator();
+    for interface in ["I", "H", "I"] {
+        registry
+            .add_implements("Query", interface)
+            .expect(&rt, "memory");
+    }
+    let others = names(alloc, &["J", "H"]).expect(&rt, "memory");
+    for name in ["Query", "Other"] {
+        let ty = empty_object(alloc, name).expect(&rt, "memory");
+        registry.add_type(ty, &others).expect(&rt, "memory");
+    }
+    let query = interfaces(alloc, &registry, "Query").expect(&rt, "memory");
+    assert_eq!(rt; query.as_str(), " I H J");
+    let other = interfaces(alloc, &registry, "Other").expect(&rt, "memory");
+    assert_eq!(rt; other.as_str(), " J H");
+}
+
+#[test]
+fn system_types_are_added(rt: HostRuntime) {
+    let mut registry = Registry::new(rt.alloc());
+    let alloc = registry.allocator();
+    registry.add_system_types().expect(&rt, "memory");
+    let outline = outline(alloc, &registry).expect(&rt, "memory");
+    assert_eq!(rt;
+        outline.as_str(),
+        "Boolean Float ID Int String @deprecated @include @oneOf @skip @specifiedBy "
+    );
+}
+
+#[test]
+fn introspection_types_are_added(rt: HostRuntime) {
+    let mut registry = Registry::new(rt.alloc());
+    let alloc = registry.allocator();
+    registry.set_query_type("Query").expect(&rt, "memory");
+    let query = empty_object(alloc, "Query").expect(&rt, "memory");
+    registry.insert_type(query).expect(&rt, "memory");
+    registry.create_introspection_types().expect(&rt, "memory");
+    let outline = outline(alloc, &registry).expect(&rt, "memory");
+    assert_eq!(rt;
+        outline.as_str(),
+        "Query __Directive __DirectiveLocation __EnumValue __Field __InputValue __Schema __Type __TypeKind "
+    );
+    let fields = fields(alloc, &registry, "Query").expect(&rt, "memory");
+    assert_eq!(rt; fields.as_str(), " __schema __type");
 }

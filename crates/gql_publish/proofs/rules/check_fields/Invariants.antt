@@ -1,7 +1,8 @@
 use Rattle.std.proofs.Common.{◌≡◌, drop}
-use Rattle.gql_publish.specs.Rules.{first_over, field_missing}
+use Rattle.gql_publish.specs.Rules.{field_missing}
+use Rattle.gql_rules.specs.Tests.{first_in}
 use Rattle.gql_publish.proofs.rules.check_fields.Given as goal
 
 -- those that are left have the first fault of all
 abbrev pub invariant-loop-field : goal.invariant-loop-field
-invariant-loop-field l = first_over (field_missing l.defined) (drop l.field-index l.fields) ≡ first_over (field_missing l.defined) l.fields
+invariant-loop-field l = first_in (field_missing l.defined) (drop l.field-index l.fields) ≡ first_in (field_missing l.defined) l.fields

@@ -1,7 +1,8 @@
 use Rattle.std.proofs.Common.{◌≡◌, drop}
-use Rattle.gql_publish.specs.Rules.{first_over, object_fault}
+use Rattle.gql_publish.specs.Rules.{object_fault}
+use Rattle.gql_rules.specs.Tests.{first_in}
 use Rattle.gql_publish.proofs.rules.check_objects.Given as goal
 
 -- those that are left have the first fault of all
 abbrev pub invariant-loop-definition : goal.invariant-loop-definition
-invariant-loop-definition l = first_over object_fault (drop l.definition-index l.definitions) ≡ first_over object_fault l.definitions
+invariant-loop-definition l = first_in object_fault (drop l.definition-index l.definitions) ≡ first_in object_fault l.definitions

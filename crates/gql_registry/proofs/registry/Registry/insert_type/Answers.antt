@@ -1,13 +1,29 @@
 use Rattle.std.proofs.Common.{ap, ◌∙◌, rules, ◌≡◌, string_bytes}
 use Rattle.std.specs.Option.{option_map}
-use Rattle.gql_registry.specs.Meta.{meta_of}
-use Rattle.gql_registry.specs.Parts.{at_text, name_of}
-use Rattle.gql_registry.specs.Registry.{types_of}
-use Rattle.gql_registry.proofs.Entries.{sorted_at_text}
+use Rattle.std.specs.BTreeMap.{insert_entry}
+use Rattle.gql_meta.specs.Views.{meta_of, entries_of}
+use Rattle.gql_meta.specs.Parts.{at_text, name_of, text_cmp}
+use Rattle.gql_registry.specs.Registry.{types_of, registry_of, with_type}
+use Rattle.gql_registry.proofs.Entries.{at_text_of, entries_with_entry}
 use Rattle.gql_registry.proofs.registry.Registry.insert_type.Goals as goal
 
 pub returns-clause-before : goal.returns-clause-before
-returns-clause-before c =
+returns-clause-before g c =
     let same : string_bytes c.in_ok-name.name ≡ name_of (meta_of c.args.ty) = search rules in
-    ap (option_map meta_of) c.in_ok-insert.ensures.old ∙ sorted_at_text meta_of (string_bytes c.in_ok-name.name) c.args.self.now.types.entries
+    ap (option_map meta_of) c.in_ok-insert.ensures.old ∙ at_text_of meta_of (string_bytes c.in_ok-name.name) c.args.self.now.types.entries
     ∙ ap (λ t. at_text t (types_of c.args.self.now)) same
+
+pub returns-clause-types : goal.returns-clause-types
+returns-clause-types g c =
+    let types = c.args.self.now.types.entries in
+    let same : string_bytes c.in_ok-name.name ≡ name_of (meta_of c.args.ty) = search rules in
+    ap (entries_of meta_of) c.in_ok-insert.ensures.entries ∙ entries_with_entry meta_of types c.in_ok-name.name c.args.ty
+    ∙ ap (λ t. insert_entry text_cmp (entries_of meta_of types) t (meta_of c.args.ty)) same
+
+pub returns-clause-contents : goal.returns-clause-contents
+returns-clause-contents g c =
+    let types = c.args.self.now.types.entries in
+    let same : string_bytes c.in_ok-name.name ≡ name_of (meta_of c.args.ty) = search rules in
+    ap (λ types. record (registry_of c.args.self.now) { types = types })
+    (ap (entries_of meta_of) c.in_ok-insert.ensures.entries ∙ entries_with_entry meta_of types c.in_ok-name.name c.args.ty
+    ∙ ap (λ t. insert_entry text_cmp (entries_of meta_of types) t (meta_of c.args.ty)) same)

@@ -1,0 +1,260 @@
+//! Types of a schema, and their registration: section 3.4 of the GraphQL specification, October 2021.
+
+ghost use Rattle.std.specs.Prelude.{◌≡◌, [], false, IfOk, IfErr, OnOk, OnErr, map, true};
+ghost use Rattle.std.specs.Map.{keys_of};
+ghost use Rattle.std.specs.Option.{option_map, option_map_or};
+ghost use Rattle.gql_meta.specs.Parts.{name_of};
+ghost use Rattle.gql_meta.specs.Views.{text_of, meta_of};
+ghost use Rattle.gql_registry.specs.Registry.{registry_of, types_of, with_type, with_all_implements};
+ghost use Rattle.gql_types.specs.Types.{is_among};
+ghost use Rattle.gql_types.specs.Views.{object_parts, interface_parts, input_object_parts, subscription_parts};
+ghost use Rattle.gql_dynamic.specs.Types.{type_name, type_meta, interfaces, object_of, interface_of, input_object_of, subscription_of, is_output, is_input};
+ghost use Rattle.gql_dynamic.specs.Views.{type_parts};
+ghost use Rattle.gql_dynamic.specs.Errors.{TellsExisting};
+ghost use Rattle.gql_dynamic.specs.declared.schema_type.SchemaType.TheVariants as variant;
+
+use crate::schema_error::SchemaError;
+use gql_meta::{MetaType, OutOfMemory};
+use gql_registry::Registry;
+use gql_types::{Enum, InputObject, Interface, Object, Scalar, Subscription, Union};
+use indexmap::IndexSet;
+use std::alloc::Global;
+
+/// A type of a schema. `Upload` is the scalar of uploaded files, which is an input type alone.
+#[derive(Debug, Drop)]
+pub enum SchemaType {
+    Scalar(Scalar),
+    Object(Object),
+    InputObject(InputObject),
+    Enum(Enum),
+    Interface(Interface),
+    Union(Union),
+    Subscription(Subscription),
+    Upload,
+}
+
+/// A type of a schema.
+pub type Type = SchemaType;
+
+impl SchemaType {
+    pub fn name(&self) -> &str
+        ensures { result.now ≡ type_name (type_parts self.now) }
+    {
+        match self {
+            SchemaType::Scalar(ty) => ty.type_name(),
+            SchemaType::Object(ty) => ty.type_name(),
+            SchemaType::InputObject(ty) => ty.type_name(),
+            SchemaType::Enum(ty) => ty.type_name(),
+            SchemaType::Interface(ty) => ty.type_name(),
+            SchemaType::Union(ty) => ty.type_name(),
+            SchemaType::Subscription(ty) => ty.type_name(),
+            SchemaType::Upload => "Upload",
+        }
+    }
+
+    pub fn as_object(&self) -> Option<&Object>
+        ensures { option_map (λ ty. object_parts ty.now) result ≡ object_of (type_parts self.now) }
+    {
+        match self {
+            SchemaType::Object(ty) => Some(ty),
+            _ => None,
+        }
+    }
+
+    pub fn as_interface(&self) -> Option<&Interface>
+        ensures { option_map (λ ty. interface_parts ty.now) result ≡ interface_of (type_parts self.now) }
+    {
+        match self {
+            SchemaType::Interface(ty) => Some(ty),
+            _ => None,
+        }
+    }
+
+    pub fn as_input_object(&self) -> Option<&InputObject>
+        ensures { option_map (λ ty. input_object_parts ty.now) result ≡ input_object_of (type_parts self.now) }
+    {
+        match self {
+            SchemaType::InputObject(ty) => Some(ty),
+            _ => None,
+        }
+    }
+
+    pub fn as_subscription(&self) -> Option<&Subscription>
+        ensures { option_map (λ ty. subscription_parts ty.now) result ≡ subscription_of (type_parts self.now) }
+    {
+        match self {
+            SchemaType::Subscription(ty) => Some(ty),
+            _ => None,
+        }
+    }
+
+    /// Whether a field may have it, section 3.4.2.
+    pub fn is_output_type(&self) -> bool
+        ensures { result ≡ is_output (type_parts self.now) }
+    {
+        match self {
+            SchemaType::Scalar(_) => true,
+            SchemaType::Object(_) => true,
+            SchemaType::InputObject(_) => false,
+            SchemaType::Enum(_) => true,
+            SchemaType::Interface(_) => true,
+            SchemaType::Union(_) => true,
+            SchemaType::Subscription(_) => false,
+            SchemaType::Upload => false,
+        }
+    }
+
+    /// Whether an argument or a field of an input object may have it, section 3.4.2.
+    pub fn is_input_type(&self) -> bool
+        ensures { result ≡ is_input (type_parts self.now) }
+    {
+        match self {
+            SchemaType::Scalar(_) => true,
+            SchemaType::Object(_) => false,
+            SchemaType::InputObject(_) => true,
+            SchemaType::Enum(_) => true,
+            SchemaType::Interface(_) => false,
+            SchemaType::Union(_) => false,
+            SchemaType::Subscription(_) => false,
+            SchemaType::Upload => true,
+        }
+    }
+
+    /// Registers it with the interfaces that it implements, in order: all of that, or nothing.
+    ///
+    /// Answers `AlreadyExists` where the registry has a type of its name.
+    pub fn register(&self, registry: &mut Registry) -> Result<(), SchemaError>
+        ensures added { OnOk result (registry_of registry.new ≡ record (registry_of registry.old) {
+          types = with_type (types_of registry.old) (type_meta (type_parts self.now));
+          implements = with_all_implements (type_name (type_parts self.now)) (registry_of registry.old).implements (interfaces (type_parts self.now));
+        }) }
+        ensures new { OnOk result (is_among (type_name (type_parts self.now)) (keys_of (types_of registry.old)) ≡ false) }
+        ensures exists { IfErr result (TellsExisting (type_name (type_parts self.now)) (keys_of (types_of registry.old))) }
+        ensures refused { OnErr result (registry_of registry.new ≡ registry_of registry.old) }
+    {
+        let alloc = registry.allocator();
+        if has_type(registry, self.name()) {
+            return Err(SchemaError::AlreadyExists {
+                name: String::from_str(alloc, self.name())?,
+            });
+        }
+        let ty = self.meta(alloc)?;
+        add(registry, ty, self.implements())?;
+        Ok(())
+    }
+
+    /// The type that is registered. The condition always holds: with one, the prover takes the function for every
+    /// validator that the type may hold.
+    fn meta(&self, alloc: Global) -> Result<MetaType, OutOfMemory>
+        requires any_validator { true ≡ true }
+        ensures parts { IfOk result (λ ty. meta_of ty ≡ type_meta (type_parts self.now)) }
+        ensures name { IfOk result (λ ty. name_of (meta_of ty) ≡ type_name (type_parts self.now)) }
+    {
+        match self {
+            SchemaType::Scalar(ty) => ty.meta(alloc),
+            SchemaType::Object(ty) => ty.meta(alloc),
+            SchemaType::InputObject(ty) => ty.meta(alloc),
+            SchemaType::Enum(ty) => ty.meta(alloc),
+            SchemaType::Interface(ty) => ty.meta(alloc),
+            SchemaType::Union(ty) => ty.meta(alloc),
+            SchemaType::Subscription(ty) => ty.meta(alloc),
+            SchemaType::Upload => Scalar::new(alloc, "Upload")?.meta(alloc),
+        }
+    }
+
+    /// The names of the interfaces that it implements; None for a type of a kind that implements none.
+    fn implements(&self) -> Option<&IndexSet<String>>
+        ensures { option_map_or (λ names. map text_of names.now.keys) result [] ≡ interfaces (type_parts self.now) }
+    {
+        match self {
+            SchemaType::Object(ty) => Some(ty.implements()),
+            SchemaType::Interface(ty) => Some(ty.implements()),
+            _ => None,
+        }
+    }
+}
+
+fn has_type(registry: &Registry, name: &str) -> bool
+    ensures { result ≡ is_among name.now (keys_of (types_of registry.now)) }
+{
+    registry.types().contains_key(name)
+}
+
+/// Adds a type with the names of the interfaces that it implements: all of that, or nothing. The condition always
+/// holds: with one, the prover takes the function for every validator that the registry may hold.
+fn add(
+    registry: &mut Registry,
+    ty: MetaType,
+    names: Option<&IndexSet<String>>,
+) -> Result<(), OutOfMemory>
+    requires any_validator { true ≡ true }
+    ensures added { OnOk result (registry_of registry.new ≡ record (registry_of registry.old) {
+      types = with_type (types_of registry.old) (meta_of ty);
+      implements = with_all_implements (name_of (meta_of ty)) (registry_of registry.old).implements (option_map_or (λ names. map text_of names.now.keys) names.entry []);
+    }) }
+    ensures refused { OnErr result (registry_of registry.new ≡ registry_of registry.old) }
+{
+    match names {
+        Some(names) => registry.add_type(ty, names),
+        None => {
+            let none = IndexSet::new(registry.allocator());
+            registry.add_type(ty, &none)
+        }
+    }
+}
+
+impl From<Scalar> for SchemaType {
+    ghost from_gives = { λ scalar ty. ty ≡ variant.Scalar scalar };
+
+    fn from(scalar: Scalar) -> SchemaType {
+        SchemaType::Scalar(scalar)
+    }
+}
+
+impl From<Object> for SchemaType {
+    ghost from_gives = { λ object ty. ty ≡ variant.Object object };
+
+    fn from(object: Object) -> SchemaType {
+        SchemaType::Object(object)
+    }
+}
+
+impl From<InputObject> for SchemaType {
+    ghost from_gives = { λ object ty. ty ≡ variant.InputObject object };
+
+    fn from(object: InputObject) -> SchemaType {
+        SchemaType::InputObject(object)
+    }
+}
+
+impl From<Enum> for SchemaType {
+    ghost from_gives = { λ built ty. ty ≡ variant.Enum built };
+
+    fn from(built: Enum) -> SchemaType {
+        SchemaType::Enum(built)
+    }
+}
+
+impl From<Interface> for SchemaType {
+    ghost from_gives = { λ built ty. ty ≡ variant.Interface built };
+
+    fn from(interface: Interface) -> SchemaType {
+        SchemaType::Interface(interface)
+    }
+}
+
+impl From<Union> for SchemaType {
+    ghost from_gives = { λ built ty. ty ≡ variant.Union built };
+
+    fn from(union: Union) -> SchemaType {
+        SchemaType::Union(union)
+    }
+}
+
+impl From<Subscription> for SchemaType {
+    ghost from_gives = { λ subscription ty. ty ≡ variant.Subscription subscription };
+
+    fn from(subscription: Subscription) -> SchemaType {
+        SchemaType::Subscription(subscription)
+    }
+}

@@ -1,0 +1,6 @@
+pub mod Alike
+pub mod Entries
+pub mod Distinct
+pub mod Merging
+pub mod Levels
+pub mod Printed

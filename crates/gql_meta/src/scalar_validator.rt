@@ -1,0 +1,32 @@
+//! The test of the values of a scalar.
+
+ghost use Rattle.std.specs.Prelude.{◌≡◌};
+ghost use Rattle.std.specs.Fn.{FnReturnsAt};
+
+use gql_value::ConstValue;
+
+type Test = fn(&ConstValue) -> bool;
+
+/// A function that says which values a scalar takes.
+#[derive(Clone, Copy)]
+pub struct ScalarValidator {
+    accepts: Test,
+    ghost callable: { Test.IsAlwaysCallable accepts },
+}
+
+impl ScalarValidator {
+    /// The validator that asks the function, which may be called on every value.
+    pub fn new(f: fn(&ConstValue) -> bool) -> ScalarValidator
+        requires { IsAlwaysCallable f }
+        ensures { result.accepts ≡ f }
+    {
+        ScalarValidator { accepts: f }
+    }
+
+    /// What the function that `new` got answers.
+    pub fn check(&self, value: &ConstValue) -> bool
+        ensures { FnReturnsAt Test.Fn self.now.accepts value.now result }
+    {
+        (self.accepts)(value)
+    }
+}

@@ -1,0 +1,69 @@
+-- Entries under names, over what their values stand for.
+use Rattle.std.proofs.Common.{◌≡◌, Bool, true, false, if◌then◌else◌, List, [], ◌∷◌, ◌++◌, refl, sym, ap, ◌∙◌, map, append_assoc, append-nil}
+use Rattle.std.specs.List.{IsDistinct, AllByRecursion}
+use Rattle.std.specs.Str.{bytes_eq}
+use Rattle.std.specs.String.{string_eq}
+use Rattle.std.specs.Map.{keys_of}
+use Rattle.std.specs.Cmp.Lexicographic.{nat_list_eq_equiv}
+use Rattle.std.proofs.lemmas.Map.Keys.{IsDistinct-head, IsDistinct-tail}
+use Rattle.std.specs.declared.string.String.{String}
+use Rattle.std.specs.declared.alloc.Global.{Global}
+use Rattle.indexmap.specs.IndexMap.{insert_entry, insert_all}
+use Rattle.gql_meta.specs.Parts.{Text}
+use Rattle.gql_meta.specs.Views.{text_of, entries_of}
+use Rattle.gql_parts.specs.Builders.{with_entry}
+
+entries_of-if : {A B : Type 0} (f : A → B) (b : Bool) (xs ys : List (String Global × A)) → entries_of f (if b then xs else ys) ≡ (if b then entries_of f xs else entries_of f ys)
+entries_of-if f true xs ys = refl
+entries_of-if f false xs ys = refl
+
+-- an entry more
+pub entries_with_entry : {A B : Type 0} (f : A → B) (es : List (String Global × A)) (k : String Global) (v : A) → entries_of f (insert_entry string_eq es k v) ≡ with_entry (entries_of f es) (text_of k) (f v)
+entries_with_entry f [] k v = refl
+entries_with_entry f (e ∷ es) k v = entries_of-if f (bytes_eq (text_of k) (text_of e.0)) _ _
+    ∙ ap (λ l. if bytes_eq (text_of k) (text_of e.0) then (text_of e.0, f v) ∷ entries_of f es else (text_of e.0, f e.1) ∷ l) (entries_with_entry f es k v)
+
+-- no entry is of the name
+abbrev IsNew : {B : Type 0} → Text → List (Text × B) → Type 0
+IsNew name done = AllByRecursion (λ e. bytes_eq name e.0 ≡ false) done
+
+-- no entry is of a name of the others
+abbrev AreNew : {A B : Type 0} → List (String Global × A) → List (Text × B) → Type 0
+AreNew es done = AllByRecursion (λ e. IsNew (text_of e.0) done) es
+
+-- a new name goes last
+with_entry-new : {B : Type 0} (name : Text) (v : B) (done : List (Text × B)) → IsNew name done → with_entry done name v ≡ done ++ (name, v) ∷ []
+with_entry-new name v [] h = refl
+with_entry-new name v (e ∷ es) h =
+    ap (λ b. if b then (e.0, v) ∷ es else e ∷ with_entry es name v) h.0 ∙ ap (λ l. e ∷ l) (with_entry-new name v es h.1)
+
+IsNew-push : {B : Type 0} (name : Text) (done : List (Text × B)) (e : Text × B) → IsNew name done → bytes_eq name e.0 ≡ false → IsNew name (done ++ e ∷ [])
+IsNew-push name [] e h other = (other, tt)
+IsNew-push name (d ∷ ds) e h other = (h.0, IsNew-push name ds e h.1 other)
+
+AreNew-push : {A B : Type 0} (es : List (String Global × A)) (done : List (Text × B)) (k : String Global) (v : B) → AreNew es done → AllByRecursion (λ y. string_eq k y ≡ false) (keys_of es) → AreNew es (done ++ (text_of k, v) ∷ [])
+AreNew-push [] done k v h others = tt
+AreNew-push (e ∷ es) done k v h others = (
+  IsNew-push (text_of e.0) done (text_of k, v) h.0 (nat_list_eq_equiv.symm (text_of e.0) (text_of k) ∙ others.0),
+  AreNew-push es done k v h.1 others.1,
+)
+
+AreNew-nil : {A : Type 0} (B : Type 0) (es : List (String Global × A)) → AreNew {B = B} es []
+AreNew-nil B [] = tt
+AreNew-nil B (e ∷ es) = (tt, AreNew-nil B es)
+
+inserted : {A B : Type 0} (f : A → B) (es : List (String Global × A)) (done : List (Text × B)) → AreNew es done → IsDistinct string_eq (keys_of es) → insert_all bytes_eq done (entries_of f es) ≡ done ++ entries_of f es
+inserted f [] done new distinct = sym (append-nil done)
+inserted f (e ∷ es) done new distinct =
+    ap (λ l. insert_all bytes_eq l (entries_of f es)) (with_entry-new (text_of e.0) (f e.1) done new.0)
+    ∙ inserted f es (done ++ (text_of e.0, f e.1) ∷ []) (AreNew-push es done e.0 (f e.1) new.1 (IsDistinct-head string_eq e.0 (keys_of es) distinct)) (IsDistinct-tail string_eq e.0 (keys_of es) distinct)
+    ∙ append_assoc done ((text_of e.0, f e.1) ∷ []) (entries_of f es)
+
+-- entries of distinct names, inserted each in turn, are these entries
+pub insert_all-distinct : {A B : Type 0} (f : A → B) (es : List (String Global × A)) → IsDistinct string_eq (keys_of es) → insert_all bytes_eq [] (entries_of f es) ≡ entries_of f es
+insert_all-distinct {B = B} f es distinct = inserted f es [] (AreNew-nil B es) distinct
+
+-- what the values stand for, in two steps
+pub entries_of-then : {A B C : Type 0} (g : B → C) (f : A → B) (es : List (String Global × A)) → map (λ e. (e.0, g e.1)) (entries_of f es) ≡ entries_of (λ a. g (f a)) es
+entries_of-then g f [] = refl
+entries_of-then g f (e ∷ es) = ap (λ l. (text_of e.0, g (f e.1)) ∷ l) (entries_of-then g f es)

@@ -1,0 +1,61 @@
+-- What the builders of the code stand for.
+use Rattle.std.specs.Option.{option_map}
+use Rattle.gql_meta.specs.Parts.{Invocation}
+use Rattle.gql_meta.specs.Views.{text_of, texts_of, entries_of, deprecation_of, invocation_of, invocations_of}
+use Rattle.gql_parts.specs.Builders.{EnumItemParts, InputValueParts, FieldParts, SubscriptionFieldParts}
+use Rattle.gql_parts.specs.declared.directive.Directive.{Directive}
+use Rattle.gql_parts.specs.declared.enum_item.EnumItem.{EnumItem}
+use Rattle.gql_parts.specs.declared.input_value.InputValue.{InputValue}
+use Rattle.gql_parts.specs.declared.field.FieldBuilder.{FieldBuilder}
+use Rattle.gql_parts.specs.declared.subscription_field.SubscriptionField.{SubscriptionField}
+
+abbrev pub directive_use : Directive → Invocation
+directive_use directive = invocation_of directive.invocation
+
+abbrev pub enum_item_parts : EnumItem → EnumItemParts
+enum_item_parts item = record {
+  name = text_of item.name;
+  description = option_map text_of item.description;
+  deprecation = deprecation_of item.deprecation;
+  inaccessible = item.inaccessible;
+  tags = texts_of item.tags;
+  directives = invocations_of item.directives;
+}
+
+abbrev pub input_value_parts : InputValue → InputValueParts
+input_value_parts input = record {
+  name = text_of input.name;
+  ty = input.ty;
+  default_value = input.default_value;
+  description = option_map text_of input.description;
+  deprecation = deprecation_of input.deprecation;
+  inaccessible = input.inaccessible;
+  tags = texts_of input.tags;
+  directives = invocations_of input.directives;
+}
+
+abbrev pub field_parts : {Owner : Type 0} → FieldBuilder Owner → FieldParts
+field_parts field = record {
+  name = text_of field.name;
+  ty = field.ty;
+  arguments = entries_of input_value_parts field.arguments.entries;
+  description = option_map text_of field.description;
+  deprecation = deprecation_of field.deprecation;
+  external = field.external;
+  requires_fields = option_map text_of field.requires_fields;
+  provides = option_map text_of field.provides;
+  shareable = field.shareable;
+  inaccessible = field.inaccessible;
+  tags = texts_of field.tags;
+  override_from = option_map text_of field.override_from;
+  directives = invocations_of field.directives;
+}
+
+abbrev pub subscription_field_parts : SubscriptionField → SubscriptionFieldParts
+subscription_field_parts field = record {
+  name = text_of field.name;
+  ty = field.ty;
+  arguments = entries_of input_value_parts field.arguments.entries;
+  description = option_map text_of field.description;
+  deprecation = deprecation_of field.deprecation;
+}

@@ -1,0 +1,53 @@
+-- What is added to a registry step by step.
+use Rattle.std.specs.Prelude.{◌≡◌, ℕ, List, [], ◌∷◌, ◌++◌, map, fold, take}
+use Rattle.std.specs.Option.{option_map_or}
+use Rattle.std.specs.Map.{set_value}
+use Rattle.std.specs.Str.{bytes_eq}
+use Rattle.indexmap.specs.IndexMap.{insert_entry}
+use Rattle.gql_meta.specs.Parts.{Text, at_text, Field, Directive, Meta, object, name_of}
+use Rattle.gql_registry.specs.Registry.{Contents, with_type, with_directive}
+use Rattle.gql_registry.specs.System.{system_directives, system_scalars}
+use Rattle.gql_registry.specs.Introspection.{introspection_types, query_fields}
+
+-- fields with one more: it takes the place of one of its name, and a new one goes last
+abbrev pub with_field : List (Text × Field) → Field → List (Text × Field)
+with_field fields field = insert_entry bytes_eq fields field.name field
+
+-- an object with a field more, and any other type as it is
+abbrev pub object_with : Field → Meta → Meta
+object_with field (object type) = object (record type { fields = with_field type.fields field })
+object_with field type = type
+
+-- the types, where the one under this name has a field more if it is an object
+abbrev pub with_query_field : Text → List (Text × Meta) → Field → List (Text × Meta)
+with_query_field query types field = option_map_or (λ type. set_value (bytes_eq query) types (object_with field type)) (at_text query types) types
+
+-- the types with another, where none stands under its name
+abbrev pub with_missing : List (Text × Meta) → Meta → List (Text × Meta)
+with_missing types type = option_map_or (λ _. types) (at_text (name_of type) types) (with_type types type)
+
+-- one addition: a directive, in the place of one of its name; a type, where none of its name stands; a field of the
+-- query root, where that is an object
+pub data Step : Type 0 where
+  directive : Directive → Step
+  missing_type : Meta → Step
+  query_field : Field → Step
+
+abbrev pub made : Contents → Step → Contents
+made before (directive added) = record before { directives = with_directive before.directives added }
+made before (missing_type added) = record before { types = with_missing before.types added }
+made before (query_field added) = record before { types = with_query_field before.query before.types added }
+
+-- all of the steps in turn
+unfoldable pub all_made : Contents → List Step → Contents
+all_made before steps = fold made before steps
+
+-- some first of the steps, and none of the others
+abbrev pub IsPartlyMade : Contents → List Step → Contents → Type 0
+IsPartlyMade before steps after = (count : ℕ) × (after ≡ all_made before (take count steps))
+
+abbrev pub system_steps : List Step
+system_steps = map directive system_directives ++ map missing_type system_scalars
+
+abbrev pub introspection_steps : List Step
+introspection_steps = map missing_type introspection_types ++ map query_field query_fields

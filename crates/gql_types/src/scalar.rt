@@ -1,0 +1,145 @@
+//! Scalars: section 3.5 of the GraphQL specification, October 2021.
+
+ghost use Rattle.std.specs.Prelude.{◌≡◌, ◌++◌, ◌∷◌, [], Some, true, IfOk, IfSome, IfNone, map};
+ghost use Rattle.std.specs.Fn.{FnReturnsAt};
+ghost use Rattle.gql_meta.specs.Views.{text_of, meta_of, validator_of};
+ghost use Rattle.gql_parts.specs.Views.{directive_use};
+ghost use Rattle.gql_types.specs.Types.{new_scalar, scalar_meta};
+ghost use Rattle.gql_types.specs.Views.{scalar_parts};
+
+use crate::copies::{copied_directives, copied_text, copied_texts};
+use gql_meta::{ConstValue, MetaDirectiveInvocation, MetaType, OutOfMemory, ScalarValidator};
+use gql_parts::Directive;
+use std::alloc::Global;
+use std::fmt;
+
+type Test = fn(&ConstValue) -> bool;
+
+/// A scalar.
+#[derive(Drop)]
+pub struct Scalar {
+    alloc: Global,
+    name: String,
+    description: Option<String>,
+    is_valid: Option<ScalarValidator>,
+    specified_by_url: Option<String>,
+    inaccessible: bool,
+    tags: Vec<String>,
+    directives: Vec<MetaDirectiveInvocation>,
+}
+
+impl Scalar {
+    /// The scalar of that name, of which no more is said.
+    pub fn new(alloc: Global, name: &str) -> Result<Scalar, OutOfMemory>
+        ensures { IfOk result (λ scalar. scalar_parts scalar ≡ new_scalar name.now) }
+    {
+        Ok(Scalar {
+            alloc,
+            name: String::from_str(alloc, name)?,
+            description: None,
+            is_valid: None,
+            specified_by_url: None,
+            inaccessible: false,
+            tags: Vec::new(alloc),
+            directives: Vec::new(alloc),
+        })
+    }
+
+    /// Says which values it takes. The last call counts.
+    pub fn validator(mut self, v: ScalarValidator) -> Scalar
+        ensures recorded { scalar_parts result ≡ record (scalar_parts self) { is_validated = true } }
+        ensures kept { result.is_valid ≡ Some v }
+    {
+        self.is_valid = Some(v);
+        self
+    }
+
+    /// Whether it takes a value: what its validator says, and `true` where it has none.
+    pub fn validate(&self, value: &ConstValue) -> bool
+        ensures asked { IfSome self.now.is_valid (λ v. FnReturnsAt Test.Fn v.accepts value.now result) }
+        ensures taken { IfNone self.now.is_valid (result ≡ true) }
+    {
+        match &self.is_valid {
+            None => true,
+            Some(v) => v.check(value),
+        }
+    }
+
+    /// Tells the URL of its specification, section 3.5.5. The last call counts.
+    pub fn specified_by_url(mut self, url: &str) -> Result<Scalar, OutOfMemory>
+        ensures { IfOk result (λ scalar. scalar_parts scalar ≡ record (scalar_parts self) { specified_by_url = Some url.now }) }
+    {
+        self.specified_by_url = Some(String::from_str(self.alloc, url)?);
+        Ok(self)
+    }
+
+    /// Describes it. The last call counts.
+    pub fn description(mut self, text: &str) -> Result<Scalar, OutOfMemory>
+        ensures { IfOk result (λ scalar. scalar_parts scalar ≡ record (scalar_parts self) { description = Some text.now }) }
+    {
+        self.description = Some(String::from_str(self.alloc, text)?);
+        Ok(self)
+    }
+
+    /// Marks it as inaccessible, for federation.
+    pub fn inaccessible(mut self) -> Scalar
+        ensures { scalar_parts result ≡ record (scalar_parts self) { inaccessible = true } }
+    {
+        self.inaccessible = true;
+        self
+    }
+
+    /// Tags it, for federation. The last call counts.
+    pub fn tags(mut self, tags: &[String]) -> Result<Scalar, OutOfMemory>
+        ensures { IfOk result (λ scalar. scalar_parts scalar ≡ record (scalar_parts self) { tags = map text_of tags.now }) }
+    {
+        self.tags = copied_texts(self.alloc, tags)?;
+        Ok(self)
+    }
+
+    /// Uses a directive on it, after those that are used on it.
+    pub fn directive(mut self, directive: Directive) -> Result<Scalar, OutOfMemory>
+        ensures { IfOk result (λ scalar. scalar_parts scalar
+            ≡ record (scalar_parts self) { directives = (scalar_parts self).directives ++ directive_use directive ∷ [] }) }
+    {
+        let invocation = MetaDirectiveInvocation::from(directive);
+        self.directives.push(invocation)?;
+        Ok(self)
+    }
+
+    pub fn type_name(&self) -> &str
+        ensures { result.now ≡ (scalar_parts self.now).name }
+    {
+        self.name.as_str()
+    }
+
+    /// The type that is registered.
+    pub fn meta(&self, alloc: Global) -> Result<MetaType, OutOfMemory>
+        ensures { IfOk result (λ ty. meta_of ty ≡ scalar_meta (scalar_parts self.now)) }
+    {
+        Ok(MetaType::Scalar {
+            name: String::from_str(alloc, self.name.as_str())?,
+            description: copied_text(alloc, &self.description)?,
+            is_valid: self.is_valid,
+            visible: None,
+            inaccessible: self.inaccessible,
+            tags: copied_texts(alloc, self.tags.as_slice())?,
+            specified_by_url: copied_text(alloc, &self.specified_by_url)?,
+            directive_invocations: copied_directives(alloc, self.directives.as_slice())?,
+            requires_scopes: Vec::new(alloc),
+        })
+    }
+}
+
+impl fmt::Debug for Scalar {
+    fn fmt<W: fmt::Write>(&self, f: &mut fmt::Formatter<W>) -> fmt::Result {
+        f.debug_struct("Scalar")
+            .field("name", &self.name)
+            .field("description", &self.description)
+            .field("specified_by_url", &self.specified_by_url)
+            .field("inaccessible", &self.inaccessible)
+            .field("tags", &self.tags)
+            .field("directives", &self.directives)
+            .finish()
+    }
+}
