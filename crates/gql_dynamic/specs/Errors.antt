@@ -1,8 +1,7 @@
 -- What the errors of the code stand for.
 use Rattle.std.specs.Prelude.{◌≡◌, true, List, Option, Some, None, Result, Ok, Err, IfSome, codes}
-use Rattle.gql_meta.specs.Parts.{Text}
+use Rattle.gql_meta.specs.Parts.{Text, is_among}
 use Rattle.gql_meta.specs.Views.{text_of}
-use Rattle.gql_types.specs.Types.{is_among}
 use Rattle.gql_rules.specs.Faults.{Fault, sentence}
 use Rattle.gql_rules.specs.Faults as fault
 use Rattle.gql_dynamic.specs.declared.schema_error.SchemaError.{SchemaError}

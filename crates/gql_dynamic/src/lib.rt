@@ -3,6 +3,8 @@
 
 mod schema_error;
 mod schema_type;
+#[cfg(test)]
+mod tests;
 
 pub use gql_types::{
     BuildError, Directive, Enum, EnumItem, Field, FieldBuilder, InputObject, InputValue, Interface,

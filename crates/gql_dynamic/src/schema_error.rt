@@ -11,8 +11,22 @@ ghost use Rattle.gql_dynamic.specs.declared.schema_error.SchemaError.TheVariants
 use gql_meta::{MetaTypeId, OutOfMemory};
 use std::alloc::{AllocError, AllocFailed, Global};
 
-const UNDERSCORES: &str =
+// What is wrong, as the end of a sentence that names it.
+
+const RESERVED: &str =
     "\" must not have a name which begins with the characters \"__\" (two underscores)";
+
+const NO_SUBSCRIPTION: &str = "The subscription root must be a subscription object";
+
+const NO_FIELD: &str = "\" must define one or more fields";
+
+const NO_OUTPUT: &str = "\" must return a output type";
+
+const NO_INPUT: &str = "\" must accept a input type";
+
+const HAS_DEFAULT: &str = "\" must not have a default value";
+
+const ITSELF: &str = "\" may not implement itself";
 
 const CYCLE: &str =
     "\" references itself either directly or through referenced Input Objects, at least one of the \
@@ -129,139 +143,47 @@ impl SchemaError {
         ensures { IfOk result (λ text. text_of text ≡ message_of self.now) }
     {
         match self {
-            SchemaError::AlreadyExists { name } => {
-                of_name(alloc, "Type \"", name.as_str(), "\" already exists")
-            }
-            SchemaError::NotFound { name } => {
-                of_name(alloc, "Type \"", name.as_str(), "\" not found")
-            }
-            SchemaError::QueryRoot => joined(alloc, &["The query root must be an object"]),
-            SchemaError::MutationRoot => joined(alloc, &["The mutation root must be an object"]),
-            SchemaError::SubscriptionRoot => {
-                joined(
-                    alloc,
-                    &["The subscription root must be a subscription object"],
-                )
-            }
-            SchemaError::EmptyObject { ty } => {
-                of_name(
-                    alloc,
-                    "Object \"",
-                    ty.as_str(),
-                    "\" must define one or more fields",
-                )
-            }
-            SchemaError::FieldUnderscores { ty, field } => {
-                of_field(alloc, ty.as_str(), field.as_str(), UNDERSCORES)
-            }
-            SchemaError::ArgUnderscores { ty, field, arg } => {
-                of_argument(
-                    alloc,
-                    ty.as_str(),
-                    field.as_str(),
-                    arg.as_str(),
-                    UNDERSCORES,
-                )
-            }
-            SchemaError::FieldOutput { ty, field } => {
-                of_field(
-                    alloc,
-                    ty.as_str(),
-                    field.as_str(),
-                    "\" must return a output type",
-                )
-            }
-            SchemaError::ArgInput { ty, field, arg } => {
-                of_argument(
-                    alloc,
-                    ty.as_str(),
-                    field.as_str(),
-                    arg.as_str(),
-                    "\" must accept a input type",
-                )
-            }
-            SchemaError::FieldInput { ty, field } => {
-                of_field(
-                    alloc,
-                    ty.as_str(),
-                    field.as_str(),
-                    "\" must accept a input type",
-                )
-            }
-            SchemaError::OneOfNullable { ty, field } => {
-                of_field(alloc, ty.as_str(), field.as_str(), "\" must be nullable")
-            }
-            SchemaError::OneOfDefault { ty, field } => {
-                of_field(
-                    alloc,
-                    ty.as_str(),
-                    field.as_str(),
-                    "\" must not have a default value",
-                )
-            }
-            SchemaError::InputCycle { ty } => of_name(alloc, "\"", ty.as_str(), CYCLE),
-            SchemaError::NotInterface { name } => {
-                of_name(alloc, "Type \"", name.as_str(), "\" is not interface")
-            }
-            SchemaError::MissingField {
+            Self::AlreadyExists { name } => of_name(alloc, "Type \"", name, "\" already exists"),
+            Self::NotFound { name } => of_name(alloc, "Type \"", name, "\" not found"),
+            Self::QueryRoot => joined(alloc, &["The query root must be an object"]),
+            Self::MutationRoot => joined(alloc, &["The mutation root must be an object"]),
+            Self::SubscriptionRoot => joined(alloc, &[NO_SUBSCRIPTION]),
+            Self::EmptyObject { ty } => of_name(alloc, "Object \"", ty, NO_FIELD),
+            Self::FieldUnderscores { ty, field } => of_field(alloc, ty, field, RESERVED),
+            Self::ArgUnderscores { ty, field, arg } => of_argument(alloc, ty, field, arg, RESERVED),
+            Self::FieldOutput { ty, field } => of_field(alloc, ty, field, NO_OUTPUT),
+            Self::ArgInput { ty, field, arg } => of_argument(alloc, ty, field, arg, NO_INPUT),
+            Self::FieldInput { ty, field } => of_field(alloc, ty, field, NO_INPUT),
+            Self::OneOfNullable { ty, field } => of_field(alloc, ty, field, "\" must be nullable"),
+            Self::OneOfDefault { ty, field } => of_field(alloc, ty, field, HAS_DEFAULT),
+            Self::InputCycle { ty } => of_name(alloc, "\"", ty, CYCLE),
+            Self::NotInterface { name } => of_name(alloc, "Type \"", name, "\" is not interface"),
+            Self::MissingField {
                 kind,
                 ty,
                 field,
                 interface,
-            } => {
-                missing_field(
-                    alloc,
-                    kind_word(*kind),
-                    ty.as_str(),
-                    field.as_str(),
-                    interface.as_str(),
-                )
-            }
-            SchemaError::MissingArgument {
+            } => missing_field(alloc, kind_word(*kind), ty, field, interface),
+            Self::MissingArgument {
                 ty,
                 field,
                 arg,
                 interface,
-            } => {
-                missing_argument(
-                    alloc,
-                    ty.as_str(),
-                    field.as_str(),
-                    arg.as_str(),
-                    interface.as_str(),
-                )
-            }
-            SchemaError::ArgType {
+            } => missing_argument(alloc, ty, field, arg, interface),
+            Self::ArgType {
                 ty,
                 field,
                 arg,
                 interface,
-            } => {
-                argument_type(
-                    alloc,
-                    ty.as_str(),
-                    field.as_str(),
-                    arg.as_str(),
-                    interface.as_str(),
-                )
-            }
-            SchemaError::FieldType {
+            } => argument_type(alloc, ty, field, arg, interface),
+            Self::FieldType {
                 ty,
                 field,
                 interface,
-            } => { field_type(alloc, ty.as_str(), field.as_str(), interface.as_str()) }
-            SchemaError::ImplementsItself { ty } => {
-                of_name(
-                    alloc,
-                    "Interface \"",
-                    ty.as_str(),
-                    "\" may not implement itself",
-                )
-            }
-            SchemaError::MemberNotObject { ty, member } => {
-                member_not_object(alloc, ty.as_str(), member.as_str())
-            }
-            SchemaError::OutOfMemory => joined(alloc, &["out of memory"]),
+            } => field_type(alloc, ty, field, interface),
+            Self::ImplementsItself { ty } => of_name(alloc, "Interface \"", ty, ITSELF),
+            Self::MemberNotObject { ty, member } => member_not_object(alloc, ty, member),
+            Self::OutOfMemory => joined(alloc, &["out of memory"]),
         }
     }
 }
@@ -291,30 +213,32 @@ fn joined(alloc: Global, parts: &[&str]) -> Result<String, OutOfMemory>
 }
 
 /// What is wrong with what has a name.
-fn of_name(alloc: Global, before: &str, name: &str, after: &str) -> Result<String, OutOfMemory>
-    ensures { IfOk result (λ text. text_of text ≡ concat (before.now ∷ name.now ∷ after.now ∷ [])) }
+fn of_name(alloc: Global, before: &str, name: &String, after: &str) -> Result<String, OutOfMemory>
+    ensures { IfOk result (λ text. text_of text ≡ concat (before.now ∷ text_of name.now ∷ after.now ∷ [])) }
 {
-    joined(alloc, &[before, name, after])
+    joined(alloc, &[before, name.as_str(), after])
 }
 
 /// What is wrong with a field.
-fn of_field(alloc: Global, ty: &str, field: &str, what: &str) -> Result<String, OutOfMemory>
-    ensures { IfOk result (λ text. text_of text ≡ concat (codes "Field \"" ∷ ty.now ∷ codes "." ∷ field.now ∷ what.now ∷ [])) }
+fn of_field(alloc: Global, ty: &String, field: &String, what: &str) -> Result<String, OutOfMemory>
+    ensures { IfOk result (λ text. text_of text
+        ≡ concat (codes "Field \"" ∷ text_of ty.now ∷ codes "." ∷ text_of field.now ∷ what.now ∷ [])) }
 {
-    joined(alloc, &["Field \"", ty, ".", field, what])
+    joined(alloc, &["Field \"", ty.as_str(), ".", field.as_str(), what])
 }
 
 /// What is wrong with an argument.
 fn of_argument(
     alloc: Global,
-    ty: &str,
-    field: &str,
-    arg: &str,
+    ty: &String,
+    field: &String,
+    arg: &String,
     what: &str,
 ) -> Result<String, OutOfMemory>
-    ensures { IfOk result (λ text. text_of text
-        ≡ concat (codes "Argument \"" ∷ ty.now ∷ codes "." ∷ field.now ∷ codes "." ∷ arg.now ∷ what.now ∷ [])) }
+    ensures { IfOk result (λ text. text_of text ≡ concat
+        (codes "Argument \"" ∷ text_of ty.now ∷ codes "." ∷ text_of field.now ∷ codes "." ∷ text_of arg.now ∷ what.now ∷ [])) }
 {
+    let (ty, field, arg) = (ty.as_str(), field.as_str(), arg.as_str());
     joined(alloc, &["Argument \"", ty, ".", field, ".", arg, what])
 }
 
@@ -322,12 +246,14 @@ fn of_argument(
 fn missing_field(
     alloc: Global,
     word: &str,
-    ty: &str,
-    field: &str,
-    interface: &str,
+    ty: &String,
+    field: &String,
+    interface: &String,
 ) -> Result<String, OutOfMemory>
-    ensures { IfOk result (λ text. text_of text ≡ missing_field_sentence word.now ty.now field.now interface.now) }
+    ensures { IfOk result (λ text. text_of text
+        ≡ missing_field_sentence word.now (text_of ty.now) (text_of field.now) (text_of interface.now)) }
 {
+    let (ty, field, interface) = (ty.as_str(), field.as_str(), interface.as_str());
     joined(
         alloc,
         &[
@@ -345,13 +271,20 @@ fn missing_field(
 
 fn missing_argument(
     alloc: Global,
-    ty: &str,
-    field: &str,
-    arg: &str,
-    interface: &str,
+    ty: &String,
+    field: &String,
+    arg: &String,
+    interface: &String,
 ) -> Result<String, OutOfMemory>
-    ensures { IfOk result (λ text. text_of text ≡ sentence (missing_argument ty.now field.now arg.now interface.now)) }
+    ensures { IfOk result (λ text. text_of text
+        ≡ sentence (missing_argument (text_of ty.now) (text_of field.now) (text_of arg.now) (text_of interface.now))) }
 {
+    let (ty, field, arg, interface) = (
+        ty.as_str(),
+        field.as_str(),
+        arg.as_str(),
+        interface.as_str(),
+    );
     joined(
         alloc,
         &[
@@ -372,36 +305,44 @@ fn missing_argument(
 
 fn argument_type(
     alloc: Global,
-    ty: &str,
-    field: &str,
-    arg: &str,
-    interface: &str,
+    ty: &String,
+    field: &String,
+    arg: &String,
+    interface: &String,
 ) -> Result<String, OutOfMemory>
-    ensures { IfOk result (λ text. text_of text ≡ sentence (arg_type ty.now field.now arg.now interface.now)) }
+    ensures { IfOk result (λ text. text_of text
+        ≡ sentence (arg_type (text_of ty.now) (text_of field.now) (text_of arg.now) (text_of interface.now))) }
 {
     joined(
         alloc,
         &[
             "Argument \"",
-            interface,
+            interface.as_str(),
             ".",
-            field,
+            field.as_str(),
             ".",
-            arg,
+            arg.as_str(),
             "\" is not sub-type of \"",
-            ty,
+            ty.as_str(),
             ".",
-            field,
+            field.as_str(),
             ".",
-            arg,
+            arg.as_str(),
             "\"",
         ],
     )
 }
 
-fn field_type(alloc: Global, ty: &str, field: &str, interface: &str) -> Result<String, OutOfMemory>
-    ensures { IfOk result (λ text. text_of text ≡ sentence (field_type ty.now field.now interface.now)) }
+fn field_type(
+    alloc: Global,
+    ty: &String,
+    field: &String,
+    interface: &String,
+) -> Result<String, OutOfMemory>
+    ensures { IfOk result (λ text. text_of text
+        ≡ sentence (field_type (text_of ty.now) (text_of field.now) (text_of interface.now))) }
 {
+    let (ty, field, interface) = (ty.as_str(), field.as_str(), interface.as_str());
     joined(
         alloc,
         &[
@@ -418,16 +359,16 @@ fn field_type(alloc: Global, ty: &str, field: &str, interface: &str) -> Result<S
     )
 }
 
-fn member_not_object(alloc: Global, ty: &str, member: &str) -> Result<String, OutOfMemory>
-    ensures { IfOk result (λ text. text_of text ≡ sentence (member_not_object ty.now member.now)) }
+fn member_not_object(alloc: Global, ty: &String, member: &String) -> Result<String, OutOfMemory>
+    ensures { IfOk result (λ text. text_of text ≡ sentence (member_not_object (text_of ty.now) (text_of member.now))) }
 {
     joined(
         alloc,
         &[
             "Member \"",
-            member,
+            member.as_str(),
             "\" of union \"",
-            ty,
+            ty.as_str(),
             "\" is not an object",
         ],
     )

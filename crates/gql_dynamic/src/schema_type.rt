@@ -3,10 +3,9 @@
 ghost use Rattle.std.specs.Prelude.{◌≡◌, [], false, IfOk, IfErr, OnOk, OnErr, map, true};
 ghost use Rattle.std.specs.Map.{keys_of};
 ghost use Rattle.std.specs.Option.{option_map, option_map_or};
-ghost use Rattle.gql_meta.specs.Parts.{name_of};
+ghost use Rattle.gql_meta.specs.Parts.{name_of, is_among};
 ghost use Rattle.gql_meta.specs.Views.{text_of, meta_of};
 ghost use Rattle.gql_registry.specs.Registry.{registry_of, types_of, with_type, with_all_implements};
-ghost use Rattle.gql_types.specs.Types.{is_among};
 ghost use Rattle.gql_types.specs.Views.{object_parts, interface_parts, input_object_parts, subscription_parts};
 ghost use Rattle.gql_dynamic.specs.Types.{type_name, type_meta, interfaces, object_of, interface_of, input_object_of, subscription_of, is_output, is_input};
 ghost use Rattle.gql_dynamic.specs.Views.{type_parts};
@@ -133,7 +132,7 @@ impl SchemaType {
         ensures refused { OnErr result (registry_of registry.new ≡ registry_of registry.old) }
     {
         let alloc = registry.allocator();
-        if has_type(registry, self.name()) {
+        if registry.has_type(self.name()) {
             return Err(SchemaError::AlreadyExists {
                 name: String::from_str(alloc, self.name())?,
             });
@@ -172,12 +171,6 @@ impl SchemaType {
             _ => None,
         }
     }
-}
-
-fn has_type(registry: &Registry, name: &str) -> bool
-    ensures { result ≡ is_among name.now (keys_of (types_of registry.now)) }
-{
-    registry.types().contains_key(name)
 }
 
 /// Adds a type with the names of the interfaces that it implements: all of that, or nothing. The condition always

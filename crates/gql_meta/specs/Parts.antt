@@ -18,6 +18,9 @@ Text = List ℕ
 abbrev pub text_cmp : Text → Text → Ordering
 text_cmp = slice_cmp nat_cmp
 
+abbrev pub is_among : Text → List Text → Bool
+is_among name names = list_any (bytes_eq name) names
+
 -- what entries have under a text
 abbrev pub at_text : {X : Type 0} → Text → List (Text × X) → Option X
 at_text text entries = lookup (bytes_eq text) entries

@@ -17,6 +17,7 @@ mod meta_type;
 mod scalar_validator;
 #[cfg(test)]
 mod tests;
+mod type_copies;
 mod type_id;
 mod type_name;
 

@@ -4,8 +4,8 @@ use Rattle.std.proofs.lemmas.List.{append-nil}
 use Rattle.std.specs.Prelude.{◌&&◌}
 use Rattle.std.specs.List.{list_any, flat_map}
 use Rattle.std.specs.Str.{bytes_eq}
-use Rattle.gql_meta.specs.Parts.{Text}
-use Rattle.gql_publish.specs.Names.{is_among, are_new, texts_in}
+use Rattle.gql_meta.specs.Parts.{Text, is_among}
+use Rattle.gql_publish.specs.Names.{are_new, texts_in}
 use Rattle.gql_publish.proofs.Firsts.{drop_step}
 
 pub texts_have : (t : Text) (ks : List (Bor Text)) → list_any (λ k. bytes_eq t k.now) ks ≡ is_among t (texts_in ks)

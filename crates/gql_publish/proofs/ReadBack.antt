@@ -8,7 +8,7 @@ use Rattle.gql_readback.proofs.Texts.{is_unquoted}
 use Rattle.gql_readback.proofs.Bytes.{unquoted-append, name_unquoted, unquoted_utf8, before_quote}
 use Rattle.gql_readback.proofs.Types.{type_unquoted}
 use Rattle.gql_readback.proofs.Whole.{spelled_by, one_tree}
-use Rattle.gql_meta.specs.Parts.{Text, Meta}
+use Rattle.gql_meta.specs.Parts.{Text, Meta, is_among}
 use Rattle.gql_registry.specs.Registry.{with_types}
 use Rattle.gql_syntax.specs.Documents.{SpelledBy}
 use Rattle.gql_syntax.specs.declared.operation.OperationType.TheVariants.{Subscription}
@@ -21,7 +21,7 @@ use Rattle.gql_text.specs.Verdict.{Spells}
 use Rattle.gql_text.specs.declared.document.Definition.{Definition}
 use Rattle.gql_text.specs.declared.document.Document.{Document}
 use Rattle.gql_value.specs.TypeRefs.{type_text}
-use Rattle.gql_publish.specs.Names.{is_among, are_distinct}
+use Rattle.gql_publish.specs.Names.{are_distinct}
 use Rattle.gql_publish.specs.Plain.{is_plain_definition, type_names, are_plain, query_of}
 use Rattle.gql_publish.specs.Rules.{first_fault}
 use Rattle.gql_publish.specs.Spelling.{field_text, fields_text, body_text, meta_text, types_text, directives_text, schema_text, spell}

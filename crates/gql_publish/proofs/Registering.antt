@@ -5,9 +5,9 @@ use Rattle.std.specs.String.{string_eq}
 use Rattle.indexmap.specs.IndexMap.{insert_entry}
 use Rattle.std.specs.declared.string.String.{String}
 use Rattle.std.specs.declared.alloc.Global.{Global}
-use Rattle.gql_meta.specs.Parts.{Text}
+use Rattle.gql_meta.specs.Parts.{Text, is_among}
 use Rattle.gql_meta.specs.Views.{text_of, entries_of}
-use Rattle.gql_publish.specs.Names.{is_among, keys_in}
+use Rattle.gql_publish.specs.Names.{keys_in}
 
 step : {A B : Type 0} (f : A → B) (b r : Bool) (e : String Global × A) (v : A) (es xs : List (String Global × A)) (ys : List (Text × B)) → (b || r) ≡ false
     → (r ≡ false → entries_of f xs ≡ ys) → entries_of f (cond b ((e.0, v) ∷ es) (e ∷ xs)) ≡ (text_of e.0, f e.1) ∷ ys

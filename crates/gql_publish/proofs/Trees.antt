@@ -5,7 +5,7 @@ use Rattle.std.specs.List.{AllByRecursion, AllZip, list_all, list_any, filter_ma
 use Rattle.std.specs.Str.{bytes_eq}
 use Rattle.std.proofs.lemmas.List.Folds.{list_any-append}
 use Rattle.std.specs.Cmp.Lexicographic.{same_text}
-use Rattle.gql_meta.specs.Parts.{Text}
+use Rattle.gql_meta.specs.Parts.{Text, is_among}
 use Rattle.gql_syntax.specs.declared.operation.OperationType.TheVariants.{Subscription}
 use Rattle.gql_syntax.specs.declared.syntax.PlacedName.{PlacedName}
 use Rattle.gql_syntax.specs.declared.syntax.Field.{Field}
@@ -17,7 +17,7 @@ use Rattle.gql_text.specs.Roots as roots
 use Rattle.gql_text.specs.WrittenRoots.{first_schema}
 use Rattle.gql_text.specs.declared.document.Definition.{Definition}
 use Rattle.gql_text.specs.declared.document.Definition.TheVariants.{SchemaBlock}
-use Rattle.gql_publish.specs.Names.{is_among, are_new, are_distinct}
+use Rattle.gql_publish.specs.Names.{are_new, are_distinct}
 use Rattle.gql_publish.specs.Plain.{is_plain_field, is_plain_definition, is_schema_block, field_names, type_names, are_plain, query_of}
 use Rattle.gql_publish.proofs.Choices.{both, not_false, or_last}
 use Rattle.gql_publish.proofs.Parts.{PlainField, PlainType, plain_scalar, plain_object, plain_name, plain_field, field_name, plains, names_are, IsSoundField, IsSound}

@@ -3,12 +3,11 @@ use Rattle.std.proofs.Common.{◌≡◌, Bool, true, false, List, [], ◌∷◌,
 use Rattle.std.specs.Prelude.{◌&&◌, ◌||◌, not}
 use Rattle.std.specs.List.{AllByRecursion, list_any}
 use Rattle.std.specs.Str.{bytes_eq}
-use Rattle.gql_meta.specs.Parts.{Text}
+use Rattle.gql_meta.specs.Parts.{Text, is_among}
 use Rattle.gql_text.specs.declared.document.Definition.{Definition}
 use Rattle.gql_text.specs.declared.document.Definition.TheVariants.{SchemaBlock, Scalar, Object, Interface, Union, Enum, Input, Directive}
 use Rattle.gql_text.specs.declared.document.FieldDef.{FieldDef}
 use Rattle.gql_value.specs.TypeRefs.{reference, innermost}
-use Rattle.gql_publish.specs.Names.{is_among}
 use Rattle.gql_publish.specs.Plain.{is_empty, type_names}
 use Rattle.gql_publish.specs.Rules.{is_system_scalar, exists, is_object, missing, name_fault, field_missing, existence_fault, root_fault, object_fault, tests, first_fault}
 use Rattle.gql_rules.specs.Faults.{query_root}

@@ -1,12 +1,7 @@
 -- Lists of names.
 use Rattle.std.specs.Prelude.{Bool, true, not, ◌&&◌, List, [], ◌∷◌, ◌++◌, map}
 use Rattle.std.specs.Borrow.{Bor}
-use Rattle.std.specs.List.{list_any}
-use Rattle.std.specs.Str.{bytes_eq}
-use Rattle.gql_meta.specs.Parts.{Text}
-
-abbrev pub is_among : Text → List Text → Bool
-is_among name names = list_any (bytes_eq name) names
+use Rattle.gql_meta.specs.Parts.{Text, is_among}
 
 -- none of these names is an earlier one, or repeated
 abbrev pub are_new : (earlier names : List Text) → Bool

@@ -3,8 +3,8 @@
 use Rattle.std.specs.Prelude.{Bool, true, false, not, ◌&&◌, ◌||◌, List, [], ◌∷◌, is_none, codes}
 use Rattle.std.specs.List.{list_all, list_any, flat_map}
 use Rattle.std.specs.Str.{bytes_eq}
-use Rattle.gql_meta.specs.Parts.{Text}
-use Rattle.gql_publish.specs.Names.{is_among, are_distinct}
+use Rattle.gql_meta.specs.Parts.{Text, is_among}
+use Rattle.gql_publish.specs.Names.{are_distinct}
 use Rattle.gql_text.specs.Owners.{is_reserved}
 use Rattle.gql_text.specs.declared.document.Definition.{Definition}
 use Rattle.gql_text.specs.declared.document.Definition.TheVariants.{SchemaBlock, Scalar, Object}

@@ -3,11 +3,10 @@
 use Rattle.std.specs.Prelude.{Bool, true, false, not, ◌&&◌, ◌||◌, List, [], ◌∷◌, Option, Some, None, codes}
 use Rattle.std.specs.List.{list_any}
 use Rattle.std.specs.Str.{bytes_eq}
-use Rattle.gql_meta.specs.Parts.{Text}
+use Rattle.gql_meta.specs.Parts.{Text, is_among}
 use Rattle.gql_text.specs.declared.document.Definition.{Definition}
 use Rattle.gql_text.specs.declared.document.Definition.TheVariants.{Scalar, Object}
 use Rattle.gql_text.specs.declared.document.FieldDef.{FieldDef}
-use Rattle.gql_publish.specs.Names.{is_among}
 use Rattle.gql_publish.specs.Plain.{is_empty, type_names}
 use Rattle.gql_rules.specs.Faults.{Fault, already_exists, not_found, query_root, empty_object}
 use Rattle.gql_rules.specs.Tests.{fault_if, first_of, first_in}

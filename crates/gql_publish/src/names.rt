@@ -1,7 +1,7 @@
 //! Names that were met.
 
 ghost use Rattle.std.specs.Prelude.{◌≡◌, ◌++◌, ◌∷◌, [], not, if◌then◌else◌, IfOk};
-ghost use Rattle.gql_publish.specs.Names.{is_among};
+ghost use Rattle.gql_meta.specs.Parts.{is_among};
 
 use gql_text::OutOfMemory;
 use indexmap::IndexSet;

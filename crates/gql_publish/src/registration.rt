@@ -3,9 +3,10 @@
 ghost use Rattle.std.specs.Prelude.{◌≡◌, ◌++◌, ◌∷◌, [], IfOk, OnOk, map, true, false};
 ghost use Rattle.std.specs.List.{list_all};
 ghost use Rattle.gql_meta.specs.Views.{entries_of, field_of, meta_of};
+ghost use Rattle.gql_meta.specs.Parts.{is_among};
 ghost use Rattle.gql_registry.specs.Registry.{types_of, query_of as query_name, with_types};
 ghost use Rattle.gql_registry.specs.Plain.{plain_scalar, plain_object};
-ghost use Rattle.gql_publish.specs.Names.{is_among, keys_in, are_distinct};
+ghost use Rattle.gql_publish.specs.Names.{keys_in, are_distinct};
 ghost use Rattle.gql_publish.specs.Plain.{field_names, is_plain_definition};
 ghost use Rattle.gql_publish.specs.View.{field_entry, metas_of, metas};
 

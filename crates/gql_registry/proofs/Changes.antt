@@ -1,5 +1,5 @@
 -- Changes of entries, one after another, and the lists of the names that types implement.
-use Rattle.std.proofs.Common.{◌≡◌, Bool, true, false, cond, List, [], ◌∷◌, map, refl, ap, ap₂, ◌∙◌, sym, Some, None, string_bytes, fold, length, subst}
+use Rattle.std.proofs.Common.{◌≡◌, Bool, true, false, cond, List, [], ◌∷◌, map, refl, ap, ◌∙◌, sym, Some, None, string_bytes, fold, length, subst}
 use Rattle.std.specs.declared.option.Option.{Option}
 use Rattle.std.specs.declared.string.String.{String}
 use Rattle.std.specs.declared.alloc.Global.{Global}
@@ -11,13 +11,12 @@ use Rattle.std.specs.Str.{bytes_eq}
 use Rattle.std.specs.BTreeMap.{insert_entry}
 use Rattle.std.specs.Ordering.{match_ordering, is_eq}
 use Rattle.std.proofs.lemmas.Map.Text.{is_eq-slice_cmp}
-use Rattle.std.proofs.lemmas.Map.Steps.{set_value_same}
 use Rattle.std.proofs.lemmas.Slice.Eq.{bytes_eq-Decides}
 use Rattle.gql_meta.specs.Parts.{Text, at_text, text_cmp}
 use Rattle.gql_meta.specs.Views.{text_of, entries_of}
 use Rattle.indexmap.specs.IndexSet.{IndexSet}
 use Rattle.gql_registry.specs.Registry.{HasOnce, names_of, listed, with_name, with_list, with_implements, with_all_implements}
-use Rattle.gql_registry.proofs.Entries.{found_at, missing_at, written}
+use Rattle.gql_registry.proofs.Entries.{found_at, written}
 
 own_text : (t : Text) → bytes_eq t t ≡ true
 own_text t = (bytes_eq-Decides t t).1 refl

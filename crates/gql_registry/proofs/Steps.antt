@@ -1,5 +1,5 @@
 -- Additions, one after another.
-use Rattle.std.proofs.Common.{◌≡◌, ℕ, ◌+◌, ◌<◌, ◌≤◌, Bool, true, false, List, [], ◌∷◌, map, take, length, get_or, refl, ap, ◌∙◌, sym, Some, None, is_some, string_bytes}
+use Rattle.std.proofs.Common.{◌≡◌, ℕ, ◌+◌, ◌<◌, ◌≤◌, true, false, List, [], map, take, length, get_or, refl, ap, ◌∙◌, sym, Some, None, is_some, string_bytes}
 use Rattle.std.specs.declared.option.Option.{Option}
 use Rattle.std.specs.declared.string.String.{String}
 use Rattle.std.specs.declared.alloc.Global.{Global}
@@ -10,10 +10,10 @@ use Rattle.std.specs.Ordering.{is_eq}
 use Rattle.std.proofs.lemmas.List.Sums.{fold_more}
 use Rattle.std.proofs.Math.ListN.{get_or-map}
 use Rattle.std.proofs.lemmas.List.{take_all, length-map}
-use Rattle.gql_meta.specs.Parts.{Text, at_text, text_cmp, Field, Meta}
+use Rattle.gql_meta.specs.Parts.{Text, at_text, text_cmp, Field}
 use Rattle.gql_meta.specs.Views.{entries_of, meta_of}
 use Rattle.gql_meta.specs.declared.meta_type.MetaType.{MetaType}
-use Rattle.gql_registry.specs.Registry.{Contents}
+use Rattle.gql_registry.specs.Registry.{Contents, with_possible, with_possible_type}
 use Rattle.gql_registry.specs.Additions.{made, all_made, object_with, with_query_field}
 use Rattle.gql_registry.specs.Tables.{step_of}
 use Rattle.gql_registry.specs.declared.additions.Addition.{Addition}
@@ -50,6 +50,19 @@ module _ {x g : _} (t : Text) (es : List (String Global × MetaType x g)) (field
 
   pub no_query : None ≡ lookup (λ k. is_eq (text_cmp t (string_bytes k))) es → with_query_field t (entries_of meta_of es) field ≡ entries_of meta_of es
   no_query e = ap (λ o. option_map_or (λ type. set_value (bytes_eq t) (entries_of meta_of es) (object_with field type)) o (entries_of meta_of es)) (missing_at meta_of t es e)
+
+-- ---- a possible type
+
+module _ {x g : _} (t : Text) (es : List (String Global × MetaType x g)) (possible : Text) where
+  pub possible_written : (new : List (String Global × MetaType x g)) (v w : MetaType x g) → Some v ≡ lookup (λ k. is_eq (text_cmp t (string_bytes k))) es → new ≡ set_value (λ k. is_eq (text_cmp t (string_bytes k))) es w
+      → meta_of w ≡ with_possible possible (meta_of v) → entries_of meta_of new ≡ with_possible_type t (entries_of meta_of es) possible
+  possible_written new v w found n more =
+      written meta_of t es new w n
+      ∙ ap (set_value (bytes_eq t) (entries_of meta_of es)) more
+      ∙ sym (ap (λ o. option_map_or (λ type. set_value (bytes_eq t) (entries_of meta_of es) (with_possible possible type)) o (entries_of meta_of es)) (found_at meta_of t es v found))
+
+  pub no_type : None ≡ lookup (λ k. is_eq (text_cmp t (string_bytes k))) es → with_possible_type t (entries_of meta_of es) possible ≡ entries_of meta_of es
+  no_type e = ap (λ o. option_map_or (λ type. set_value (bytes_eq t) (entries_of meta_of es) (with_possible possible type)) o (entries_of meta_of es)) (missing_at meta_of t es e)
 
 -- ---- steps
 

@@ -1,11 +1,11 @@
 -- What is added to a registry step by step.
-use Rattle.std.specs.Prelude.{◌≡◌, ℕ, List, [], ◌∷◌, ◌++◌, map, fold, take}
+use Rattle.std.specs.Prelude.{◌≡◌, ℕ, List, ◌++◌, map, fold, take}
 use Rattle.std.specs.Option.{option_map_or}
 use Rattle.std.specs.Map.{set_value}
 use Rattle.std.specs.Str.{bytes_eq}
 use Rattle.indexmap.specs.IndexMap.{insert_entry}
 use Rattle.gql_meta.specs.Parts.{Text, at_text, Field, Directive, Meta, object, name_of}
-use Rattle.gql_registry.specs.Registry.{Contents, with_type, with_directive}
+use Rattle.gql_registry.specs.Registry.{Contents, with_type, with_directive, with_all_implements, with_possible_type}
 use Rattle.gql_registry.specs.System.{system_directives, system_scalars}
 use Rattle.gql_registry.specs.Introspection.{introspection_types, query_fields}
 
@@ -26,17 +26,25 @@ with_query_field query types field = option_map_or (λ type. set_value (bytes_eq
 abbrev pub with_missing : List (Text × Meta) → Meta → List (Text × Meta)
 with_missing types type = option_map_or (λ _. types) (at_text (name_of type) types) (with_type types type)
 
--- one addition: a directive, in the place of one of its name; a type, where none of its name stands; a field of the
--- query root, where that is an object
+-- One addition: a directive, in the place of one of its name; a type, where none of its name stands; a field of the
+-- query root, where that is an object; a type that implements these interfaces, in the place of one of its name; a
+-- possible type of the interface or union of that name.
 pub data Step : Type 0 where
   directive : Directive → Step
   missing_type : Meta → Step
   query_field : Field → Step
+  implementing_type : Meta → List Text → Step
+  possible_type : (name possible : Text) → Step
 
 abbrev pub made : Contents → Step → Contents
 made before (directive added) = record before { directives = with_directive before.directives added }
 made before (missing_type added) = record before { types = with_missing before.types added }
 made before (query_field added) = record before { types = with_query_field before.query before.types added }
+made before (implementing_type added interfaces) = record before {
+  types = with_type before.types added;
+  implements = with_all_implements (name_of added) before.implements interfaces;
+}
+made before (possible_type name possible) = record before { types = with_possible_type name before.types possible }
 
 -- all of the steps in turn
 unfoldable pub all_made : Contents → List Step → Contents

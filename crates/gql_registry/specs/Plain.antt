@@ -1,5 +1,5 @@
 -- Parts of a schema that have a name and what is said of them here, and nothing else.
-use Rattle.std.specs.Prelude.{Bool, true, false, List, [], ◌∷◌, Some, None, map}
+use Rattle.std.specs.Prelude.{true, false, List, [], Some, None, map}
 use Rattle.gql_meta.specs.Parts.{Text, not_deprecated, InputValue, Field, EnumValue, Directive, Meta, scalar, object, enum}
 use Rattle.gql_meta.specs.Caching.{no_hint}
 use Rattle.gql_meta.specs.declared.directive_location.DirectiveLocation.{DirectiveLocation}

@@ -1,5 +1,5 @@
 -- What a registry stands for, and what its calls make of that.
-use Rattle.std.specs.Prelude.{◌≡◌, Bool, true, false, List, [], ◌∷◌, Option, Some, None, map, fold}
+use Rattle.std.specs.Prelude.{◌≡◌, Bool, true, false, List, [], ◌∷◌, Option, None, map, fold}
 use Rattle.std.specs.Option.{option_map, option_map_or, unwrap_or}
 use Rattle.std.specs.List.{list_any, IsDistinct}
 use Rattle.std.specs.Map.{set_value}
@@ -9,6 +9,7 @@ use Rattle.std.specs.declared.string.String.{String}
 use Rattle.std.specs.declared.alloc.Global.{Global}
 use Rattle.indexmap.specs.IndexSet.{IndexSet, insert_key}
 use Rattle.gql_meta.specs.Parts.{Text, text_cmp, at_text, Meta, name_of, Directive}
+use Rattle.gql_meta.specs.Parts as meta
 use Rattle.gql_meta.specs.Views.{text_of, entries_of, meta_of, directive_of}
 use Rattle.gql_meta.specs.declared.introspection_mode.IntrospectionMode.{IntrospectionMode}
 use Rattle.gql_meta.specs.declared.introspection_mode.IntrospectionMode.TheVariants.{Enabled}
@@ -100,3 +101,14 @@ with_implements type lists interface = with_list type lists (with_name (listed t
 -- the same with several interfaces, each in turn
 abbrev pub with_all_implements : Text → List (Text × List Text) → List Text → List (Text × List Text)
 with_all_implements type lists interfaces = fold (with_implements type) lists interfaces
+
+-- an interface or a union with a possible type more: one that was among them stays where it is, and a new one goes last;
+-- any other type as it is
+abbrev pub with_possible : Text → Meta → Meta
+with_possible name (meta.interface type) = meta.interface (record type { possible_types = with_name type.possible_types name })
+with_possible name (meta.union type) = meta.union (record type { possible_types = with_name type.possible_types name })
+with_possible name type = type
+
+-- the types, where the one under the first name has the second as a possible type more if it is an interface or a union
+abbrev pub with_possible_type : Text → List (Text × Meta) → Text → List (Text × Meta)
+with_possible_type name types possible = option_map_or (λ type. set_value (bytes_eq name) types (with_possible possible type)) (at_text name types) types

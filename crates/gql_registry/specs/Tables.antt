@@ -1,10 +1,9 @@
 -- The tables of the code: what each of its rows stands for.
-use Rattle.std.specs.Prelude.{List, [], ◌∷◌, map, fold, Option, Some, None}
+use Rattle.std.specs.Prelude.{List, [], ◌∷◌, fold, Option, Some, None}
 use Rattle.std.specs.Borrow.{Bor}
 use Rattle.std.specs.Option.{option_map}
 use Rattle.std.specs.Str.{bytes_eq}
 use Rattle.indexmap.specs.IndexMap.{insert_entry}
-use Rattle.std.specs.declared.alloc.Global.{Global}
 use Rattle.gql_meta.specs.Parts.{Text, InputValue, Field, EnumValue, Directive, Meta}
 use Rattle.gql_registry.specs.Plain.{plain_input_value, plain_field, plain_value, plain_scalar}
 use Rattle.gql_registry.specs.System.{skip, include, deprecated, specified_by, one_of}

@@ -6,6 +6,7 @@ mod introspection;
 mod lists;
 mod optional;
 mod plain;
+mod possible;
 mod registry;
 mod system;
 #[cfg(test)]

@@ -13,7 +13,7 @@ use std::collections::BTreeMap;
 
 /// Adds a name, unless it is among the names.
 #[tactic(auto, using(crate::proofs::Names::names_with))]
-fn add_name(names: &mut IndexSet<String>, name: String) -> Result<(), OutOfMemory>
+pub(crate) fn add_name(names: &mut IndexSet<String>, name: String) -> Result<(), OutOfMemory>
     ensures names { OnOk result (names_of names.new ≡ with_name (names_of names.old) (text_of name)) }
     ensures once { OnOk result (HasOnce (names_of names.new) (text_of name)) }
     ensures err { OnErr result (names_of names.new ≡ names_of names.old) }

@@ -1,10 +1,11 @@
 //! The registry of a schema.
 
 ghost use Rattle.std.specs.Prelude.{◌≡◌, ◌≢◌, IfOk, OnOk, OnErr, Some, map};
+ghost use Rattle.std.specs.Map.{keys_of};
 ghost use Rattle.std.specs.Option.{option_map};
 ghost use Rattle.gql_registry.specs.Registry.{HasOnce, registry_of, empty, types_of, query_of, names_of, listed};
 ghost use Rattle.gql_registry.specs.Registry.{with_type, with_directive, with_implements, with_all_implements};
-ghost use Rattle.gql_meta.specs.Parts.{Text, name_of, at_text};
+ghost use Rattle.gql_meta.specs.Parts.{Text, name_of, at_text, is_among};
 ghost use Rattle.gql_meta.specs.Views.{text_of, entries_of, meta_of, directive_of};
 
 use crate::lists::{add_to_list, make_listing, put_both};
@@ -60,6 +61,13 @@ impl Registry {
         ensures { entries_of meta_of result.now.entries ≡ types_of self.now }
     {
         &self.types
+    }
+
+    /// Whether a type of this name stands in it.
+    pub fn has_type(&self, name: &str) -> bool
+        ensures { result ≡ is_among name.now (keys_of (types_of self.now)) }
+    {
+        self.types.contains_key(name)
     }
 
     pub fn directives(&self) -> &BTreeMap<String, MetaDirective>

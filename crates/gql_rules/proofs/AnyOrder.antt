@@ -4,10 +4,10 @@ use Rattle.std.specs.Str.{bytes_eq}
 use Rattle.std.specs.List.{list_any, flat_map}
 use Rattle.std.proofs.lemmas.List.Folds.{list_any-append}
 use Rattle.gql_value.specs.TypeRefs.{Reference, named, non_null, list_of, innermost, is_subtype, is_nullable}
-use Rattle.gql_meta.specs.Parts.{Text, at_text}
+use Rattle.gql_meta.specs.Parts.{Text, at_text, is_among}
 use Rattle.gql_meta.specs.declared.type_id.MetaTypeId.{MetaTypeId}
 use Rattle.gql_meta.specs.declared.type_id.MetaTypeId.TheVariants as kind
-use Rattle.gql_rules.specs.Schema.{Input, Field, Definition, Schema, exists, is_system_scalar, is_among, passes, is_object, is_interface, is_input_object, is_subscription, is_input, is_output, is_entity, declares, has_member, names_input, names_output, interface_fields}
+use Rattle.gql_rules.specs.Schema.{Input, Field, Definition, Schema, exists, is_system_scalar, passes, is_object, is_interface, is_input_object, is_subscription, is_input, is_output, is_entity, declares, has_member, names_input, names_output, interface_fields}
 use Rattle.gql_rules.specs.Tests.{fault_if, first_in}
 use Rattle.gql_rules.specs.Faults.{Fault, input_cycle, query_root, mutation_root, subscription_root, arg_input, field_output, empty_object, arg_type, missing_argument, field_type, missing_field, not_interface, member_not_object, field_input, not_found}
 use Rattle.gql_rules.specs.InputCycles.{needs, needed_by, input_fields_of, reaches, Reaches, directly, through}

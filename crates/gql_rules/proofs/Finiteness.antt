@@ -2,8 +2,8 @@
 use Rattle.std.proofs.Common.{inl, inr, arith, ◌≡◌, ◌↔◌, ◌<◌, IsTrue, ℕ, zero, suc, Bool, true, false, not, ◌&&◌, ◌||◌, List, [], ◌∷◌, refl, ap, ap₂, subst}
 use Rattle.std.specs.List.{list_any}
 use Rattle.std.specs.Str.{bytes_eq}
-use Rattle.gql_meta.specs.Parts.{Text}
-use Rattle.gql_rules.specs.Schema.{Schema, is_among}
+use Rattle.gql_meta.specs.Parts.{Text, is_among}
+use Rattle.gql_rules.specs.Schema.{Schema}
 use Rattle.gql_rules.specs.InputCycles.{needs, reaches, Reaches, directly, through, FiniteValue, FiniteValues, value, no_value, and_value}
 use Rattle.gql_rules.proofs.Counting.{Member, IsWithin, count, count-lt}
 use Rattle.gql_rules.proofs.Reaching.{names, needed, reaches-decides}

@@ -1,8 +1,8 @@
 -- The laws of the rules.
 use Rattle.std.proofs.Common.{◌≡◌, IsTrue, Bool, true, false, ◌&&◌, List, [], ◌∷◌, Option, Some, None, refl, sym}
 use Rattle.std.specs.List.{flat_map}
-use Rattle.gql_meta.specs.Parts.{Text, at_text}
-use Rattle.gql_rules.specs.Schema.{Field, Definition, Schema, input_object, is_among, is_input_object, passes}
+use Rattle.gql_meta.specs.Parts.{Text, at_text, is_among}
+use Rattle.gql_rules.specs.Schema.{Field, Definition, Schema, input_object, is_input_object, passes}
 use Rattle.gql_rules.specs.Tests.{fault_if, first_in}
 use Rattle.gql_rules.specs.InputCycles.{needed_by, input_fields_of, reaches, reaches_itself, Reaches, directly, through, HasFiniteValues}
 use Rattle.gql_rules.specs.Rules.{first_fault, first_cycle, name_fault, existence_fault, roots_fault, object_fault, input_fault, input_field_fault}

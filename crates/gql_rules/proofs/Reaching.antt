@@ -4,8 +4,8 @@ use Rattle.std.specs.List.{list_any, flat_map}
 use Rattle.std.specs.Str.{bytes_eq}
 use Rattle.std.proofs.lemmas.List.Folds.{list_any-append}
 use Rattle.gql_value.specs.TypeRefs.{Reference, named as named_reference, non_null, list_of}
-use Rattle.gql_meta.specs.Parts.{Text, at_text}
-use Rattle.gql_rules.specs.Schema.{Input, Definition, Schema, is_among, is_input_object, passes}
+use Rattle.gql_meta.specs.Parts.{Text, at_text, is_among}
+use Rattle.gql_rules.specs.Schema.{Input, Definition, Schema, is_input_object, passes}
 use Rattle.gql_rules.specs.Repeated.{repeated}
 use Rattle.gql_rules.specs.InputCycles.{needs, needed_by, input_fields_of, reaching_step, reaches, Reaches, directly, through}
 use Rattle.gql_rules.proofs.Counting.{Member, IsWithin, repeated-full}

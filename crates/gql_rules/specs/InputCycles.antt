@@ -3,8 +3,8 @@ use Rattle.std.specs.Prelude.{◌≡◌, Bool, true, List, [], ◌∷◌, Option
 use Rattle.std.specs.List.{list_any, flat_map}
 use Rattle.std.specs.Str.{bytes_eq}
 use Rattle.gql_value.specs.TypeRefs.{Reference, named, non_null}
-use Rattle.gql_meta.specs.Parts.{Text, at_text}
-use Rattle.gql_rules.specs.Schema.{Input, Definition, Schema, input_object, is_among, is_input_object, passes}
+use Rattle.gql_meta.specs.Parts.{Text, at_text, is_among}
+use Rattle.gql_rules.specs.Schema.{Input, Definition, Schema, input_object, is_input_object, passes}
 use Rattle.gql_rules.specs.Repeated.{repeated}
 
 -- the fields of an input object; a type of another kind has none

@@ -5,11 +5,11 @@ use Rattle.std.specs.Prelude.{Bool, true, false, List, [], ◌∷◌, Option, So
 use Rattle.std.specs.List.{starts_with, list_any}
 use Rattle.std.specs.Str.{bytes_eq}
 use Rattle.gql_value.specs.TypeRefs.{Reference, named, non_null, list_of, innermost, is_nullable, is_subtype}
-use Rattle.gql_meta.specs.Parts.{Text, at_text}
+use Rattle.gql_meta.specs.Parts.{Text, at_text, is_among}
 use Rattle.gql_meta.specs.declared.type_id.MetaTypeId.{MetaTypeId}
 use Rattle.gql_meta.specs.declared.type_id.MetaTypeId.TheVariants as kind
 use Rattle.gql_rules.specs.Schema.{Input, Field, Definition, Schema, object, interface, union, input_object, subscription}
-use Rattle.gql_rules.specs.Schema.{is_among, is_system_scalar, exists, passes, is_object, is_interface, is_input_object, is_subscription, is_entity, names_output, names_input, interface_fields, declares, has_member}
+use Rattle.gql_rules.specs.Schema.{is_system_scalar, exists, passes, is_object, is_interface, is_input_object, is_subscription, is_entity, names_output, names_input, interface_fields, declares, has_member}
 use Rattle.gql_rules.specs.InputCycles.{reaches_itself}
 use Rattle.gql_rules.specs.Tests.{fault_if, first_of, first_in, found_or}
 use Rattle.gql_rules.specs.Faults.{Fault, already_exists, not_found, query_root, mutation_root, subscription_root, empty_object, field_underscores, arg_underscores, field_output, arg_input, field_input, one_of_nullable, one_of_default, input_cycle, not_interface, missing_field, missing_argument, arg_type, field_type, implements_itself, member_not_object}

@@ -2,10 +2,8 @@
 -- names of the roots. A document and types that are built in code both count as such a list. Section 3 of the GraphQL
 -- specification, October 2021.
 use Rattle.std.specs.Prelude.{Bool, true, false, List, Option, Some, None, is_some, codes, ◌∷◌, [], ◌||◌}
-use Rattle.std.specs.List.{list_any}
-use Rattle.std.specs.Str.{bytes_eq}
 use Rattle.gql_value.specs.TypeRefs.{Reference}
-use Rattle.gql_meta.specs.Parts.{Text, at_text}
+use Rattle.gql_meta.specs.Parts.{Text, at_text, is_among}
 
 -- an argument or an input field
 pub record Input : Type 0 where
@@ -35,9 +33,6 @@ pub record Schema : Type 0 where
   pub subscription : Option Text
 
 -- ---- names
-
-abbrev pub is_among : Text → List Text → Bool
-is_among name names = list_any (bytes_eq name) names
 
 -- section 3.5
 unfoldable pub is_system_scalar : Text → Bool

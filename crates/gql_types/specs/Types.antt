@@ -1,7 +1,6 @@
 -- What a builder of a type has recorded, as plain data, and the type that is registered for it.
 -- Sections 3.5 to 3.10 of the GraphQL specification, October 2021.
 use Rattle.std.specs.Prelude.{Bool, true, false, ◌==◌, List, [], ◌∷◌, ◌++◌, length, Option, Some, None, map, if◌then◌else◌}
-use Rattle.std.specs.List.{list_any}
 use Rattle.std.specs.Str.{bytes_eq}
 use Rattle.indexmap.specs.IndexSet.{insert_key}
 use Rattle.gql_meta.specs.Caching.{no_hint}
@@ -9,9 +8,6 @@ use Rattle.gql_meta.specs.Parts.{Text, Invocation, Meta, scalar, object, interfa
 use Rattle.gql_parts.specs.Builders.{InputValueParts, input_value_meta, FieldParts, field_meta, SubscriptionFieldParts, subscription_field_meta, EnumItemParts, enum_item_meta, with_entry}
 
 -- ---- names and entries
-
-abbrev pub is_among : Text → List Text → Bool
-is_among name names = list_any (bytes_eq name) names
 
 -- names with one more: it stays where it is among them, and a new one goes last
 abbrev pub with_name : List Text → Text → List Text

@@ -1,10 +1,10 @@
 -- What the builders of types of the code stand for, and what their refusals tell.
 use Rattle.std.specs.Prelude.{◌≡◌, true, List, map}
 use Rattle.std.specs.Option.{option_map, is_some}
-use Rattle.gql_meta.specs.Parts.{Text}
+use Rattle.gql_meta.specs.Parts.{Text, is_among}
 use Rattle.gql_meta.specs.Views.{text_of, texts_of, entries_of, invocations_of}
 use Rattle.gql_parts.specs.Views.{enum_item_parts, input_value_parts, field_parts, subscription_field_parts}
-use Rattle.gql_types.specs.Types.{is_among, ScalarParts, ObjectParts, InterfaceParts, UnionParts, EnumParts, InputObjectParts, SubscriptionParts}
+use Rattle.gql_types.specs.Types.{ScalarParts, ObjectParts, InterfaceParts, UnionParts, EnumParts, InputObjectParts, SubscriptionParts}
 use Rattle.gql_types.specs.declared.error.BuildError.{BuildError}
 use Rattle.gql_types.specs.declared.error.BuildError.TheVariants.{AlreadyExists, OutOfMemory}
 use Rattle.gql_types.specs.declared.scalar.Scalar.{Scalar}

@@ -4,7 +4,8 @@ ghost use Rattle.std.specs.Prelude.{◌≡◌, ◌++◌, ◌∷◌, [], Some, tr
 ghost use Rattle.std.specs.Map.{keys_of};
 ghost use Rattle.gql_meta.specs.Views.{text_of, entries_of, meta_of};
 ghost use Rattle.gql_parts.specs.Views.{field_parts, directive_use};
-ghost use Rattle.gql_types.specs.Types.{is_among, is_empty, with_last, new_interface, interface_meta};
+ghost use Rattle.gql_meta.specs.Parts.{is_among};
+ghost use Rattle.gql_types.specs.Types.{is_empty, with_last, new_interface, interface_meta};
 ghost use Rattle.gql_types.specs.Views.{TellsRepeated, interface_parts};
 
 use crate::copies::{copied_directives, copied_keys, copied_text, copied_texts};

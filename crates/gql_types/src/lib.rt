@@ -11,6 +11,8 @@ mod members;
 mod object;
 mod scalar;
 mod subscription;
+#[cfg(test)]
+mod tests;
 mod union;
 
 pub use enumeration::Enum;

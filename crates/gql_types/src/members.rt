@@ -5,7 +5,8 @@ ghost use Rattle.std.specs.Map.{keys_of};
 ghost use Rattle.gql_meta.specs.Views.{text_of, entries_of, field_of, input_value_of, enum_value_of};
 ghost use Rattle.gql_parts.specs.Builders.{with_entry, field_meta, subscription_field_meta, input_value_meta, enum_item_meta};
 ghost use Rattle.gql_parts.specs.Views.{field_parts, subscription_field_parts, input_value_parts, enum_item_parts};
-ghost use Rattle.gql_types.specs.Types.{is_among, each_meta};
+ghost use Rattle.gql_meta.specs.Parts.{is_among};
+ghost use Rattle.gql_types.specs.Types.{each_meta};
 ghost use Rattle.gql_types.specs.Views.{TellsRepeated};
 
 use crate::error::BuildError;

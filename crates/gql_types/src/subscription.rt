@@ -4,7 +4,8 @@ ghost use Rattle.std.specs.Prelude.{◌≡◌, Some, true, false, IfOk, IfErr, O
 ghost use Rattle.std.specs.Map.{keys_of};
 ghost use Rattle.gql_meta.specs.Views.{entries_of, meta_of};
 ghost use Rattle.gql_parts.specs.Views.{subscription_field_parts};
-ghost use Rattle.gql_types.specs.Types.{is_among, with_last, new_subscription, subscription_meta};
+ghost use Rattle.gql_meta.specs.Parts.{is_among};
+ghost use Rattle.gql_types.specs.Types.{with_last, new_subscription, subscription_meta};
 ghost use Rattle.gql_types.specs.Views.{TellsRepeated, subscription_parts};
 
 use crate::copies::copied_text;

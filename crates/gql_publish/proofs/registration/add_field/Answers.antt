@@ -1,6 +1,7 @@
 use Rattle.std.proofs.Common.{rules, ◌≡◌, ◌++◌, ◌∷◌, [], false, subst, sym, ap, ◌∙◌}
 use Rattle.gql_meta.specs.Views.{text_of, entries_of, field_of}
-use Rattle.gql_publish.specs.Names.{is_among, keys_in}
+use Rattle.gql_meta.specs.Parts.{is_among}
+use Rattle.gql_publish.specs.Names.{keys_in}
 use Rattle.gql_publish.specs.View.{field_entry}
 use Rattle.gql_publish.proofs.Registering.{inserted_new}
 use Rattle.gql_publish.proofs.registration.add_field.Goals as goal

@@ -1,7 +1,7 @@
 use Rattle.std.proofs.Common.{ap, ◌∙◌, ◌≡◌}
 use Rattle.std.specs.Str.{bytes_eq}
 use Rattle.indexmap.specs.IndexMap.{insert_entry}
-use Rattle.gql_meta.specs.Views.{text_of, field_of, entries_of}
+use Rattle.gql_meta.specs.Views.{field_of, entries_of}
 use Rattle.gql_registry.specs.Additions.{with_field}
 use Rattle.gql_registry.proofs.Entries.{entries_appended}
 use Rattle.gql_registry.proofs.additions.add_field.Goals as goal

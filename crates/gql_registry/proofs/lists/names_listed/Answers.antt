@@ -1,4 +1,4 @@
-use Rattle.std.proofs.Common.{ap, ◌∙◌, ◌≡◌, sym, [], map}
+use Rattle.std.proofs.Common.{ap, ◌∙◌, sym, [], map}
 use Rattle.std.specs.Option.{unwrap_or}
 use Rattle.gql_meta.specs.Views.{text_of}
 use Rattle.gql_registry.specs.Registry.{names_of}

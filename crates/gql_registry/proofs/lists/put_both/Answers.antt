@@ -1,6 +1,6 @@
-use Rattle.std.proofs.Common.{ap, ◌∙◌, ◌≡◌, sym, string_bytes, None, refl}
+use Rattle.std.proofs.Common.{ap, ◌∙◌, sym, refl}
 use Rattle.std.specs.BTreeMap.{insert_entry}
-use Rattle.gql_meta.specs.Parts.{at_text, name_of, text_cmp}
+use Rattle.gql_meta.specs.Parts.{at_text, text_cmp}
 use Rattle.gql_meta.specs.Views.{text_of, entries_of, meta_of}
 use Rattle.gql_registry.specs.Registry.{names_of, with_list}
 use Rattle.gql_registry.proofs.Entries.{on_err, written_back, missing_at, entries_with_entry}

@@ -1,4 +1,4 @@
-use Rattle.std.proofs.Common.{◌≡◌, List, [], ℕ, Bor, ap, sym, ◌∙◌, fold, get_or}
+use Rattle.std.proofs.Common.{List, [], ℕ, Bor, ap, sym, ◌∙◌, get_or}
 use Rattle.std.proofs.lemmas.List.Sums.{fold_more}
 use Rattle.gql_registry.specs.Tables.{with_value}
 use Rattle.gql_registry.proofs.plain.enum_values.Goals as goal

@@ -1,5 +1,5 @@
 use Rattle.std.proofs.Common.{◌∙◌, ap}
-use Rattle.gql_publish.specs.Names.{is_among}
+use Rattle.gql_meta.specs.Parts.{is_among}
 use Rattle.gql_publish.proofs.NameLists.{texts_have}
 use Rattle.gql_publish.proofs.names.Names.has.Goals as goal
 

@@ -1,4 +1,4 @@
-use Rattle.std.proofs.Common.{ap, ◌∙◌, ◌≡◌, sym, get_or}
+use Rattle.std.proofs.Common.{ap, ◌∙◌, sym, get_or}
 use Rattle.gql_registry.specs.Registry.{registry_of}
 use Rattle.gql_registry.specs.Additions.{made}
 use Rattle.gql_registry.specs.Tables.{step_of}

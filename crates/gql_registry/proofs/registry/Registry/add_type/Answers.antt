@@ -1,7 +1,7 @@
 use Rattle.std.proofs.Common.{ap, ap₂, ◌∙◌, ◌≡◌, sym, length, true, false, fold}
 use Rattle.std.proofs.lemmas.Result.{on_ok_weaker}
-use Rattle.gql_meta.specs.Parts.{Text, Meta, name_of}
-use Rattle.gql_meta.specs.Views.{text_of, entries_of, meta_of}
+use Rattle.gql_meta.specs.Parts.{name_of}
+use Rattle.gql_meta.specs.Views.{entries_of, meta_of}
 use Rattle.gql_registry.specs.Registry.{registry_of, types_of, names_of, listed, with_type, with_name, with_list, with_all_implements}
 use Rattle.gql_registry.proofs.Entries.{on_ok_both, on_err_both}
 use Rattle.gql_registry.proofs.Changes.{all_names, no_names}

@@ -3,7 +3,7 @@ use Rattle.std.specs.Option.{option_map}
 use Rattle.std.specs.BTreeMap.{insert_entry}
 use Rattle.gql_meta.specs.Views.{meta_of, entries_of}
 use Rattle.gql_meta.specs.Parts.{at_text, name_of, text_cmp}
-use Rattle.gql_registry.specs.Registry.{types_of, registry_of, with_type}
+use Rattle.gql_registry.specs.Registry.{types_of, registry_of}
 use Rattle.gql_registry.proofs.Entries.{at_text_of, entries_with_entry}
 use Rattle.gql_registry.proofs.registry.Registry.insert_type.Goals as goal
 

@@ -1,16 +1,14 @@
--- Names of types, in a map that compares them.
+-- Whether a name is among those of a map that compares its keys.
 use Rattle.std.proofs.Common.{◌≡◌, ◌||◌, List, [], ◌∷◌, map, refl, ap, ap₂, ◌∙◌, is_some, string_bytes}
 use Rattle.std.specs.List.{list_any}
 use Rattle.std.specs.Map.{lookup, keys_of}
 use Rattle.std.specs.Ordering.{is_eq}
-use Rattle.std.specs.Str.{bytes_eq}
 use Rattle.std.proofs.lemmas.Map.Made.{is_some-lookup}
 use Rattle.std.proofs.lemmas.Map.Text.{is_eq-slice_cmp}
 use Rattle.std.specs.declared.string.String.{String}
 use Rattle.std.specs.declared.alloc.Global.{Global}
-use Rattle.gql_meta.specs.Parts.{Text, text_cmp}
+use Rattle.gql_meta.specs.Parts.{Text, text_cmp, is_among}
 use Rattle.gql_meta.specs.Views.{text_of, entries_of}
-use Rattle.gql_types.specs.Types.{is_among}
 
 compared_names : (t : Text) (ks : List (String Global)) → list_any (λ k. is_eq (text_cmp t (string_bytes k))) ks ≡ is_among t (map text_of ks)
 compared_names t [] = refl

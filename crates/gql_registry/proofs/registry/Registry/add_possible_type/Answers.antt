@@ -1,0 +1,42 @@
+use Rattle.std.proofs.Common.{ap, ◌∙◌, ◌≡◌, sym}
+use Rattle.std.proofs.lemmas.Result.{on_ok_weaker, on_err_weaker}
+use Rattle.gql_meta.specs.Views.{text_of, meta_of, entries_of}
+use Rattle.gql_registry.specs.Registry.{registry_of, types_of, with_possible, with_possible_type}
+use Rattle.gql_registry.proofs.Entries.{written_back}
+use Rattle.gql_registry.proofs.Steps.{possible_written, no_type}
+use Rattle.gql_registry.proofs.registry.Registry.add_possible_type.Goals as goal
+
+pub returns-in-Some-clause-contents : goal.returns-in-Some-clause-contents
+returns-in-Some-clause-contents g c =
+    let before = registry_of c.args.self.now in
+    let types = types_of c.args.self.now in
+    let name = c.args.interface.now in
+    let v = c.in-Some.ty.now in
+    let w = c.add_possible.new.ty in
+    on_ok_weaker c.add_possible.result
+    (λ (more : meta_of w ≡ with_possible (text_of c.in_ok-object.object) (meta_of v)).
+    ap (λ types. record before { types = types })
+    (possible_written name c.args.self.now.types.entries (text_of c.in_ok-object.object) (c.get_mut.follows.lender w).entries v w c.in-Some.ensures.value (c.get_mut.follows.holds w).0 more
+    ∙ ap (with_possible_type name types) c.in_ok-object.ensures.ok))
+    c.add_possible.ensures.possible
+
+pub returns-in-Some-clause-err : goal.returns-in-Some-clause-err
+returns-in-Some-clause-err g c =
+    let before = registry_of c.args.self.now in
+    let v = c.in-Some.ty.now in
+    let w = c.add_possible.new.ty in
+    on_err_weaker c.add_possible.result
+    (λ (same : meta_of w ≡ meta_of v).
+    ap (λ types. record before { types = types })
+    (written_back meta_of c.args.interface.now c.args.self.now.types.entries (c.get_mut.follows.lender w).entries v w c.in-Some.ensures.value (c.get_mut.follows.holds w).0 same))
+    c.add_possible.ensures.err
+
+pub returns-in-None-clause-contents : goal.returns-in-None-clause-contents
+returns-in-None-clause-contents g c =
+    let before = registry_of c.args.self.now in
+    let types = types_of c.args.self.now in
+    let name = c.args.interface.now in
+    ap (λ types. record before { types = types })
+    (ap (λ m. entries_of meta_of m.entries) c.get_mut.follows.holds-at-none
+    ∙ sym (no_type name c.args.self.now.types.entries (text_of c.in_ok-object.object) c.in-None.ensures.value)
+    ∙ ap (with_possible_type name types) c.in_ok-object.ensures.ok)
