@@ -1,7 +1,8 @@
 #!/usr/bin/env python3
-"""Times the program on documents of 1, 4 and 16 MiB, on wide ones, and on hostile inputs.
+"""Times the program on documents of 1, 4 and 16 MiB, on wide ones, and on hostile inputs; and schemas built in code.
 
-Run it at the top of the repository, after the program was built by `./gqlsdl </dev/null`:
+Run it at the top of the repository, after `./gqlsdl </dev/null` has built the program, and `rt run schema_bench` the
+program `schema_bench`; what is not built is left out:
 
     python3 bench/run.py
 
@@ -19,6 +20,7 @@ import time
 
 TOP = os.path.dirname(os.path.dirname(os.path.abspath(__file__)))
 PROGRAM = os.path.join(TOP, "crates", "gqlsdl", "out", "gqlsdl")
+SCHEMAS = os.path.join(TOP, "crates", "schema_bench", "out", "schema_bench")
 MIB = 1 << 20
 HEAD = "schema{query:Query} type Query{v:Int}\n"
 
@@ -107,6 +109,13 @@ HOSTILE = {
     "16 MiB and a byte": (b"", b" ", 16 * MIB + 1, 6),
 }
 
+# the words of `schema_bench`: what a schema that is built in code has many of, and how many
+BUILT = {
+    "100,000 types with one field": ("types", 100_000),
+    "20,000 implementers": ("implementers", 20_000),
+    "100,000 fields of an interface": ("fields", 100_000),
+}
+
 
 def run(command, path, folder):
     """The status, the seconds and the peak memory in MiB of one run over a file."""
@@ -169,14 +178,35 @@ def hostile(folder):
     return good
 
 
+def built(folder):
+    print(f"{'schema built in code':<32}{'status':>8}{'seconds':>10}{'peak MiB':>10}{'half as many':>14}")
+    for name, (shape, count) in BUILT.items():
+        times = []
+        for part in (count // 2, count):
+            status, seconds, peak = best([SCHEMAS, shape, str(part)], os.devnull, folder)
+            times.append(seconds)
+        print(f"{name:<32}{status:>8}{times[1]:>10.3f}{peak:>10.1f}{times[0]:>14.3f}")
+
+
+def documents(folder):
+    shapes(folder)
+    wide(folder)
+    return hostile(folder)
+
+
 def main():
-    if not os.access(PROGRAM, os.X_OK):
-        sys.exit("the program is not built: run ./gqlsdl </dev/null first")
+    good = True
     with tempfile.TemporaryDirectory() as folder:
-        shapes(folder)
-        wide(folder)
-        if not hostile(folder):
-            sys.exit(1)
+        if os.access(SCHEMAS, os.X_OK):
+            built(folder)
+        else:
+            print("schema_bench is not built: run `rt run schema_bench` first", file=sys.stderr)
+        if os.access(PROGRAM, os.X_OK):
+            good = documents(folder)
+        else:
+            print("gqlsdl is not built: run ./gqlsdl </dev/null first", file=sys.stderr)
+    if not good:
+        sys.exit(1)
 
 
 main()

@@ -3,3 +3,7 @@
 
 #[cfg(test)]
 mod program_tests;
+#[cfg(test)]
+mod rule_tests;
+#[cfg(test)]
+mod schema_tests;

@@ -1,0 +1,5 @@
+pub mod Borrowed
+pub mod Entries
+pub mod FirstCycle
+pub mod SameKinds
+pub mod Visits

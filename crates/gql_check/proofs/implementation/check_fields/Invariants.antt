@@ -1,0 +1,14 @@
+use Rattle.std.proofs.Common.{◌≡◌}
+use Rattle.gql_meta.specs.Views.{entries_of}
+use Rattle.gql_parts.specs.Views.{field_parts}
+use Rattle.gql_rules.specs.Tests.{first_in}
+use Rattle.gql_rules.specs.Rules.{field_implemented}
+use Rattle.gql_check.specs.Definitions.{fields_of}
+use Rattle.gql_check.specs.Views.{implementation_of, schema_of}
+use Rattle.gql_check.proofs.implementation.check_fields.Given as goal
+
+-- what is left has the first fault of all
+abbrev pub invariant-loop-name : goal.invariant-loop-name
+invariant-loop-name g l =
+    first_in (field_implemented (schema_of l.types) (implementation_of l.implementation) (fields_of (entries_of field_parts l.fields.entries))) (fields_of (entries_of field_parts l.name-iterator))
+    ≡ first_in (field_implemented (schema_of l.types) (implementation_of l.implementation) (fields_of (entries_of field_parts l.fields.entries))) (fields_of (entries_of field_parts l.initial.name-iterator))

@@ -1,0 +1,26 @@
+//! The rules of a schema, in their order, and the search for an input object that needs itself.
+#![tactic(auto)]
+
+mod existence;
+mod fields;
+mod fits;
+mod implementation;
+mod inputs;
+mod interfaces;
+mod kinds;
+mod names;
+mod objects;
+mod optional;
+mod roots;
+mod rules;
+mod search;
+mod steps;
+#[cfg(test)]
+mod tests;
+mod types;
+mod unions;
+
+pub use rules::check;
+pub use search::first_input_cycle;
+pub use steps::Steps;
+pub use types::SchemaTypes;

@@ -1,0 +1,51 @@
+use Rattle.std.proofs.Common.{rules, ◌≡◌, [], ◌∷◌, map, ap, refl, subst, sym, ◌∙◌}
+use Rattle.std.specs.Map.{keys_of, values_of}
+use Rattle.gql_registry.specs.Registry.{registry_of, types_of}
+use Rattle.gql_registry.specs.Additions.{all_made}
+use Rattle.gql_dynamic.specs.Types.{type_name}
+use Rattle.gql_dynamic.specs.Views.{type_parts}
+use Rattle.gql_check.specs.Views.{schema_parts}
+use Rattle.gql_schema.specs.Recorded.{type_step}
+use Rattle.gql_schema.proofs.Keys.{AreFree, free_names, free_after}
+use Rattle.gql_schema.proofs.Steps.{none_made, first_made, values_viewed}
+use Rattle.gql_schema.proofs.making.add_types.Goals as goal
+
+pub loop-ty-init : goal.loop-ty-init
+loop-ty-init g c =
+    let entries = c.types.result.now.entries in
+    let others = keys_of (types_of c.args.registry.now) in
+    let all : c.into_iter-ty-iterator.result ≡ entries = search rules in
+    record {
+      free = subst (λ left. AreFree (map type_name (map type_parts (values_of left))) others) (sym all)
+          (free_names type_parts entries (schema_parts c.args.types.now) others c.types.ensures c.requires.own c.requires.new c.iter-ty-items.ensures.unique);
+      all = refl;
+    }
+
+pub loop-ty-preserved : goal.loop-ty-preserved
+loop-ty-preserved g c =
+    let before = registry_of c.loop-ty.registry in
+    let type = type_parts c.in-Some.ty.now in
+    let left = map type_parts (values_of c.next.new.self) in
+    let first : c.loop-ty.ty-iterator ≡ (c.in-Some.field-0-0.now, c.in-Some.ty.now) ∷ c.next.new.self = search rules in
+    record {
+      free = free_after (map type_name left) type before (registry_of c.add_type.new.registry) c.in_ok-add_type.ensures.added
+          (subst (λ left. AreFree (map type_name (map type_parts (values_of left))) (keys_of before.types)) first c.loop-ty.invariant.free);
+      all = ap (λ so_far. all_made so_far (map type_step left)) c.in_ok-add_type.ensures.added
+          ∙ sym (first_made before (type_step type) (map type_step left))
+          ∙ sym (ap (λ left. all_made before (map type_step (map type_parts (values_of left)))) first)
+          ∙ c.loop-ty.invariant.all;
+    }
+
+pub returns-clause-added : goal.returns-clause-added
+returns-clause-added g c =
+    let before = registry_of c.args.registry.now in
+    let after = registry_of c.loop-ty.registry in
+    let entries = c.types.result.now.entries in
+    let none : c.loop-ty.ty-iterator ≡ [] = search rules in
+    let all : c.into_iter-ty-iterator.result ≡ entries = search rules in
+    sym (none_made after)
+    ∙ sym (ap (λ left. all_made after (map type_step (map type_parts (values_of left)))) none)
+    ∙ c.loop-ty.invariant.all
+    ∙ ap (λ left. all_made before (map type_step (map type_parts (values_of left)))) all
+    ∙ sym (ap (λ types. all_made before (map type_step types)) (values_viewed type_parts entries))
+    ∙ ap (λ types. all_made before (map type_step (map (λ entry. entry.1) types))) c.types.ensures

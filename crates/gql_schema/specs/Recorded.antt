@@ -1,0 +1,77 @@
+-- What the builder of a schema has recorded, and the registry that is made of it. Section 3.3 of the GraphQL
+-- specification, October 2021.
+use Rattle.std.specs.Prelude.{Bool, true, false, List, [], ◌++◌, Option, map, flat_map}
+use Rattle.std.specs.Option.{option_map_or}
+use Rattle.gql_meta.specs.Parts.{Text, Directive}
+use Rattle.gql_meta.specs.declared.introspection_mode.IntrospectionMode.{IntrospectionMode}
+use Rattle.gql_meta.specs.declared.introspection_mode.IntrospectionMode.TheVariants.{Enabled, Disabled}
+use Rattle.gql_registry.specs.Registry.{Contents, empty}
+use Rattle.gql_registry.specs.Additions.{Step, directive, implementing_type, possible_type, all_made, system_steps, introspection_steps}
+use Rattle.gql_types.specs.Types.{ObjectParts}
+use Rattle.gql_dynamic.specs.Types.{TypeParts, object_of, type_meta, interfaces}
+use Rattle.gql_check.specs.Definitions.{SchemaParts}
+
+-- `schema`: the registered types and the names of the roots. `directives`: those that were added, in their order.
+-- `is_disabled`: introspection was disabled.
+pub record Recorded : Type 0 where
+  pub schema : SchemaParts
+  pub directives : List Directive
+  pub is_disabled : Bool
+
+-- nothing but the names of the roots
+abbrev pub begun : Text → Option Text → Option Text → Recorded
+begun query mutation subscription = record {
+  schema = record { types = []; query = query; mutation = mutation; subscription = subscription };
+  directives = [];
+  is_disabled = false;
+}
+
+-- the types, in the order of registration
+abbrev pub types_in : SchemaParts → List TypeParts
+types_in schema = map (λ entry. entry.1) schema.types
+
+-- ---- the registry
+
+abbrev pub mode : Bool → IntrospectionMode
+mode true = Disabled
+mode false = Enabled
+
+-- the roots and the mode, and nothing else
+abbrev pub roots_alone : Recorded → Contents
+roots_alone recorded = record empty {
+  query = recorded.schema.query;
+  mutation = recorded.schema.mutation;
+  subscription = recorded.schema.subscription;
+  introspection = mode recorded.is_disabled;
+}
+
+-- a type is there with the interfaces that it implements
+abbrev pub type_step : TypeParts → Step
+type_step type = implementing_type (type_meta type) (interfaces type)
+
+-- an object is a possible type of each interface that it implements
+abbrev pub object_steps : ObjectParts → List Step
+object_steps object = map (λ interface. possible_type interface object.name) object.implements
+
+-- of the types, the objects are possible types
+abbrev pub possible_steps : TypeParts → List Step
+possible_steps type = option_map_or object_steps (object_of type) []
+
+-- a schema tells about itself, unless that is disabled
+abbrev pub telling_steps : Bool → List Step
+telling_steps true = []
+telling_steps false = introspection_steps
+
+-- The system's directives and scalars; the types; the added directives, each in the place of one of its name; the
+-- possible types of the interfaces; the introspection types, and the fields of the query root.
+abbrev pub schema_steps : Recorded → List Step
+schema_steps recorded =
+    system_steps
+    ++ map type_step (types_in recorded.schema)
+    ++ map directive recorded.directives
+    ++ flat_map possible_steps (types_in recorded.schema)
+    ++ telling_steps recorded.is_disabled
+
+-- what the registry of the schema holds
+abbrev pub schema_contents : Recorded → Contents
+schema_contents recorded = all_made (roots_alone recorded) (schema_steps recorded)

@@ -1,0 +1,151 @@
+//! Building a schema: section 3.3 of the GraphQL specification, October 2021.
+
+ghost use Rattle.std.specs.Prelude.{◌≡◌, ◌++◌, ◌∷◌, [], true, false, IfOk, IfErr, OnOk, map};
+ghost use Rattle.std.specs.Map.{keys_of};
+ghost use Rattle.std.specs.Option.{option_copied};
+ghost use Rattle.gql_meta.specs.Views.{directive_of};
+ghost use Rattle.gql_types.specs.Types.{with_last};
+ghost use Rattle.gql_meta.specs.Parts.{is_among};
+ghost use Rattle.gql_dynamic.specs.Types.{type_name};
+ghost use Rattle.gql_dynamic.specs.Views.{type_parts};
+ghost use Rattle.gql_dynamic.specs.Errors.{Tells, TellsExisting};
+ghost use Rattle.gql_rules.specs.Rules.{first_fault};
+ghost use Rattle.gql_check.specs.Views.{schema_parts, schema_of};
+ghost use Rattle.gql_schema.specs.Recorded.{begun};
+ghost use Rattle.gql_schema.specs.Names.{HasOwnNames};
+ghost use Rattle.gql_schema.specs.Views.{recorded_as};
+
+use crate::making::made_registry;
+use crate::schema::Schema;
+use gql_check::{SchemaTypes, check};
+use gql_dynamic::{OutOfMemory, SchemaError, Type};
+use gql_registry::MetaDirective;
+use std::alloc::Global;
+
+/// What is recorded for a schema: types, directives, the names of the roots, and whether introspection is disabled.
+#[derive(Drop)]
+pub struct SchemaBuilder {
+    alloc: Global,
+    pub(crate) types: SchemaTypes,
+    pub(crate) directives: Vec<MetaDirective>,
+    pub(crate) is_disabled: bool,
+    ghost own: { HasOwnNames (schema_parts types) },
+}
+
+/// No types as yet. `_any` is never given, and the condition always holds: with both, the prover takes the function for
+/// every validator that types may hold.
+fn no_types(
+    alloc: Global,
+    query: &str,
+    mutation: Option<&str>,
+    subscription: Option<&str>,
+    _any: Option<&Type>,
+) -> Result<SchemaTypes, OutOfMemory>
+    requires any_validator { true ≡ true }
+    ensures { IfOk result (λ types. schema_parts types ≡ (begun query.now (option_copied mutation.entry) (option_copied subscription.entry)).schema) }
+{
+    SchemaTypes::new(alloc, query, mutation, subscription)
+}
+
+fn put_type(types: &mut SchemaTypes, ty: Type) -> Result<(), SchemaError>
+    requires any_validator { true ≡ true }
+    requires own { HasOwnNames (schema_parts types.old) }
+    ensures added { OnOk result (schema_parts types.new ≡ record (schema_parts types.old) {
+      types = with_last (schema_parts types.old).types (type_name (type_parts ty)) (type_parts ty);
+    }) }
+    ensures own { OnOk result (HasOwnNames (schema_parts types.new)) }
+    ensures new { OnOk result (is_among (type_name (type_parts ty)) (keys_of (schema_parts types.old).types) ≡ false) }
+    ensures exists { IfErr result (TellsExisting (type_name (type_parts ty)) (keys_of (schema_parts types.old).types)) }
+{
+    types.register(ty)
+}
+
+fn checked(alloc: Global, types: &SchemaTypes) -> Result<(), SchemaError>
+    requires any_validator { true ≡ true }
+    ensures { Tells result (first_fault (schema_of types.now)) }
+{
+    check(alloc, types)
+}
+
+impl SchemaBuilder {
+    pub(crate) fn new(
+        alloc: Global,
+        query: &str,
+        mutation: Option<&str>,
+        subscription: Option<&str>,
+    ) -> Result<SchemaBuilder, OutOfMemory>
+        ensures { IfOk result (λ builder. recorded_as builder.types builder.directives builder.is_disabled ≡ begun query.now (option_copied mutation.entry) (option_copied subscription.entry)) }
+    {
+        Ok(SchemaBuilder {
+            alloc,
+            types: no_types(alloc, query, mutation, subscription, None)?,
+            directives: Vec::new(alloc),
+            is_disabled: false,
+        })
+    }
+
+    /// Registers a type, after those that are registered.
+    ///
+    /// Answers `AlreadyExists` exactly where a type of its name is registered.
+    pub fn register(mut self, ty: Type) -> Result<SchemaBuilder, SchemaError>
+        ensures added { IfOk result (λ builder. recorded_as builder.types builder.directives builder.is_disabled
+            ≡ record (recorded_as self.types self.directives self.is_disabled) {
+              schema = record (schema_parts self.types) {
+                types = with_last (schema_parts self.types).types (type_name (type_parts ty)) (type_parts ty);
+              };
+            }) }
+        ensures new { OnOk result (is_among (type_name (type_parts ty)) (keys_of (schema_parts self.types).types) ≡ false) }
+        ensures exists { IfErr result (TellsExisting (type_name (type_parts ty)) (keys_of (schema_parts self.types).types)) }
+    {
+        put_type(&mut self.types, ty)?;
+        Ok(self)
+    }
+
+    /// Adds the definition of a directive: the last one of a name counts, and one of the name of a system directive takes
+    /// its place.
+    pub fn directive(mut self, directive: MetaDirective) -> Result<SchemaBuilder, OutOfMemory>
+        ensures { IfOk result (λ builder. recorded_as builder.types builder.directives builder.is_disabled
+            ≡ record (recorded_as self.types self.directives self.is_disabled) {
+              directives = (recorded_as self.types self.directives self.is_disabled).directives ++ directive_of directive ∷ [];
+            }) }
+    {
+        self.directives.push(directive)?;
+        Ok(self)
+    }
+
+    /// The schema does not tell about itself.
+    pub fn disable_introspection(mut self) -> SchemaBuilder
+        ensures { recorded_as result.types result.directives result.is_disabled
+            ≡ record (recorded_as self.types self.directives self.is_disabled) { is_disabled = true } }
+    {
+        self.is_disabled = true;
+        self
+    }
+
+    /// The types that are registered, and the names of the roots.
+    pub fn types(&self) -> &SchemaTypes
+        ensures { result.now ≡ self.now.types }
+    {
+        &self.types
+    }
+
+    /// The schema, where it keeps all rules; else the first rule that it breaks.
+    pub fn finish(self) -> Result<Schema, SchemaError>
+        ensures rules { Tells result (first_fault (schema_of self.types)) }
+        ensures recorded { IfOk result (λ schema. recorded_as schema.types schema.directives schema.is_disabled ≡ recorded_as self.types self.directives self.is_disabled) }
+    {
+        checked(self.alloc, &self.types)?;
+        let registry = made_registry(
+            self.alloc,
+            &self.types,
+            self.directives.as_slice(),
+            self.is_disabled,
+        )?;
+        Ok(Schema {
+            types: self.types,
+            directives: self.directives,
+            is_disabled: self.is_disabled,
+            registry,
+        })
+    }
+}

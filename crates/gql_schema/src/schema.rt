@@ -1,0 +1,65 @@
+//! Schemas that keep the rules: section 3.3 of the GraphQL specification, October 2021.
+
+ghost use Rattle.std.specs.Prelude.{◌≡◌, None, IfOk};
+ghost use Rattle.std.specs.Option.{option_copied};
+ghost use Rattle.std.specs.Coded.{codes};
+ghost use Rattle.gql_value.specs.contracts.const_value.ConstValue as const_value;
+ghost use Rattle.gql_registry.specs.Registry.{registry_of};
+ghost use Rattle.gql_rules.specs.Rules.{first_fault};
+ghost use Rattle.gql_check.specs.Views.{schema_of};
+ghost use Rattle.gql_schema.specs.Recorded.{begun, schema_contents};
+ghost use Rattle.gql_schema.specs.Views.{recorded_as};
+
+use crate::builder::SchemaBuilder;
+use gql_check::SchemaTypes;
+use gql_dynamic::OutOfMemory;
+use gql_registry::{MetaDirective, Registry};
+use std::alloc::Global;
+
+/// A schema: its types, the directives that were added, and its registry. It breaks no rule, and its registry is the one
+/// that is made of its parts.
+#[derive(Drop)]
+pub struct Schema {
+    pub(crate) types: SchemaTypes,
+    pub(crate) directives: Vec<MetaDirective>,
+    pub(crate) is_disabled: bool,
+    pub(crate) registry: Registry,
+    pub ghost valid: { first_fault (schema_of types) ≡ None },
+    pub ghost made: { registry_of registry ≡ schema_contents (recorded_as types directives is_disabled) } by { Prim.hlevel (codes, const_value.the_row.coded) },
+}
+
+impl Schema {
+    /// A builder of a schema with roots of these names.
+    pub fn build(
+        alloc: Global,
+        query: &str,
+        mutation: Option<&str>,
+        subscription: Option<&str>,
+    ) -> Result<SchemaBuilder, OutOfMemory>
+        ensures { IfOk result (λ builder. recorded_as builder.types builder.directives builder.is_disabled ≡ begun query.now (option_copied mutation.entry) (option_copied subscription.entry)) }
+    {
+        SchemaBuilder::new(alloc, query, mutation, subscription)
+    }
+
+    /// The registered types, and the names of the roots. They break no rule.
+    pub fn types(&self) -> &SchemaTypes
+        ensures is { result.now ≡ self.now.types }
+        ensures valid { first_fault (schema_of result.now) ≡ None }
+    {
+        &self.types
+    }
+
+    /// The registry that is made of the types, the added directives, and whether introspection was disabled.
+    pub fn registry(&self) -> &Registry
+        ensures { registry_of result.now ≡ schema_contents (recorded_as self.now.types self.now.directives self.now.is_disabled) }
+    {
+        &self.registry
+    }
+
+    /// The same registry, for the caller.
+    pub fn into_registry(self) -> Registry
+        ensures { registry_of result ≡ schema_contents (recorded_as self.types self.directives self.is_disabled) }
+    {
+        self.registry
+    }
+}

@@ -1,0 +1,140 @@
+//! Builds a schema of a shape and a size in code, checks it, and makes its registry. It writes how many types the
+//! registry then has. `bench/schemas.py` times it.
+#![tactic(auto)]
+
+use gql_dynamic::{Field, Interface, InterfaceField, Object, OutOfMemory, Type};
+use gql_schema::{Schema, SchemaBuilder};
+use gql_value::TypeRef;
+use std::alloc::Global;
+use std::env;
+use std::process::ExitCode;
+
+/// What a schema has many of.
+#[derive(Clone, Copy)]
+enum Shape {
+    /// Objects of one field.
+    Types,
+    /// Objects that implement one interface.
+    Implementers,
+    /// Fields of one object, which implements an interface of as many fields.
+    Fields,
+}
+
+/// The shape and the size that the words name.
+fn asked(rt: &HostRuntime) -> Option<(Shape, u32)> {
+    let mut words = env::args(rt).ok()?.skip(1);
+    let shape = words.next()?;
+    let count = words.next()?;
+    let shape = match shape.as_str() {
+        "types" => Shape::Types,
+        "implementers" => Shape::Implementers,
+        "fields" => Shape::Fields,
+        _ => return None,
+    };
+    Some((shape, count.parse::<u32>().ok()?))
+}
+
+/// A name with a number behind it.
+fn numbered(alloc: Global, front: &str, number: u32) -> Result<String, OutOfMemory> {
+    Ok(format!(in alloc; "{}{}", front, number)?)
+}
+
+/// An object of one field.
+fn object(alloc: Global, number: u32) -> Option<Object> {
+    let name = numbered(alloc, "T", number).ok()?;
+    let field = Field::new(alloc, "v", TypeRef::named(alloc, "Int").ok()?).ok()?;
+    Object::new(alloc, name.as_str()).ok()?.field(field).ok()
+}
+
+/// An interface of one field.
+fn interface(alloc: Global) -> Option<Interface> {
+    let field = InterfaceField::new(alloc, "v", TypeRef::named(alloc, "Int").ok()?).ok()?;
+    Interface::new(alloc, "I").ok()?.field(field).ok()
+}
+
+/// An interface of many fields.
+fn wide_interface(alloc: Global, count: u32) -> Option<Interface> {
+    let mut interface = Interface::new(alloc, "I").ok()?;
+    for number in 0..count {
+        let name = numbered(alloc, "f", number).ok()?;
+        let ty = TypeRef::named(alloc, "Int").ok()?;
+        let field = InterfaceField::new(alloc, name.as_str(), ty).ok()?;
+        interface = interface.field(field).ok()?;
+    }
+    Some(interface)
+}
+
+/// An object of as many fields, which implements it.
+fn wide_object(alloc: Global, count: u32) -> Option<Object> {
+    let mut object = Object::new(alloc, "T0").ok()?.implement("I").ok()?;
+    for number in 0..count {
+        let name = numbered(alloc, "f", number).ok()?;
+        let ty = TypeRef::named(alloc, "Int").ok()?;
+        let field = Field::new(alloc, name.as_str(), ty).ok()?;
+        object = object.field(field).ok()?;
+    }
+    Some(object)
+}
+
+/// How many types the finished schema has.
+fn finished(builder: SchemaBuilder) -> Option<usize> {
+    let schema = builder.finish().ok()?;
+    Some(schema.registry().types().len())
+}
+
+fn many_types(alloc: Global, count: u32) -> Option<usize> {
+    let mut builder = Schema::build(alloc, "T0", None, None).ok()?;
+    for number in 0..count {
+        let object = object(alloc, number)?;
+        builder = builder.register(Type::from(object)).ok()?;
+    }
+    finished(builder)
+}
+
+fn many_implementers(alloc: Global, count: u32) -> Option<usize> {
+    let mut builder = Schema::build(alloc, "T0", None, None).ok()?;
+    builder = builder.register(Type::from(interface(alloc)?)).ok()?;
+    for number in 0..count {
+        let object = object(alloc, number)?.implement("I").ok()?;
+        builder = builder.register(Type::from(object)).ok()?;
+    }
+    finished(builder)
+}
+
+fn many_fields(alloc: Global, count: u32) -> Option<usize> {
+    let mut builder = Schema::build(alloc, "T0", None, None).ok()?;
+    builder = builder
+        .register(Type::from(wide_interface(alloc, count)?))
+        .ok()?;
+    builder = builder
+        .register(Type::from(wide_object(alloc, count)?))
+        .ok()?;
+    finished(builder)
+}
+
+fn measured(alloc: Global, shape: Shape, count: u32) -> Option<usize> {
+    match shape {
+        Shape::Types => many_types(alloc, count),
+        Shape::Implementers => many_implementers(alloc, count),
+        Shape::Fields => many_fields(alloc, count),
+    }
+}
+
+/// Writes the number and the end of a line.
+fn told(rt: &HostRuntime, count: usize) -> Option<()> {
+    let text = format!(in rt.alloc(); "{}\n", count).ok()?;
+    rt.stdout().write_all(text.as_bytes()).ok()
+}
+
+fn main(rt: HostRuntime) -> ExitCode {
+    let Some((shape, count)) = asked(&rt) else {
+        return ExitCode::from(2);
+    };
+    match measured(rt.alloc(), shape, count) {
+        None => ExitCode::from(1),
+        Some(types) => match told(&rt, types) {
+            None => ExitCode::from(1),
+            Some(()) => ExitCode::from(0),
+        },
+    }
+}
