@@ -7,4 +7,4 @@ mod leaf_tests;
 mod type_ref;
 
 pub use const_value::ConstValue;
-pub use type_ref::TypeRef;
+pub use type_ref::{TypeRef, subtype_laws};

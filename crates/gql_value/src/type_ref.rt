@@ -5,7 +5,7 @@ ghost use Rattle.std.specs.Cmp.{on_equiv, partial_equiv_from_equiv};
 ghost use Rattle.std.specs.Hash as fed;
 ghost use Rattle.std.specs.Hash.{same_Alike, on_Alike};
 ghost use Rattle.gql_value.specs.declared.type_ref.TypeRef.TheVariants as ty;
-ghost use Rattle.gql_value.specs.TypeRefs.{type_text, reference, innermost, is_nullable, is_subtype, IsSingle};
+ghost use Rattle.gql_value.specs.TypeRefs.{Reference, type_text, reference, innermost, is_nullable, is_subtype, IsSingle};
 ghost use Rattle.gql_value.specs.Shapes.{Shape, Fits};
 ghost use Rattle.gql_value.specs.SameType.{same, same_decides, same_equivalence, writes};
 
@@ -170,6 +170,13 @@ impl TypeRef {
         })
     }
 }
+
+/// That `is_subtype` is reflexive and transitive where no `!` stands twice in a row.
+pub fn subtype_laws()
+    ensures reflexive { (a : Reference) → IsSingle a → IsTrue (is_subtype a a) }
+    ensures transitive { (a b c : Reference) → IsSingle a → IsSingle c →
+        IsTrue (is_subtype a b) → IsTrue (is_subtype b c) → IsTrue (is_subtype a c) }
+{}
 
 impl fmt::Display for TypeRef {
     ghost output = { λ t. Some (type_text t) };
