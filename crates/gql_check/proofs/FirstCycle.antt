@@ -1,12 +1,12 @@
 -- The first input object that reaches itself, as a list of types is gone through.
 use Rattle.std.proofs.Common.{◌≡◌, Bool, true, false, List, [], ◌∷◌, Option, Some, None, IsTrue, ◌&&◌, refl, sym, ap, ◌∙◌, subst}
+use Rattle.std.proofs.lemmas.Slice.Eq.{bytes_eq-Decides}
 use Rattle.gql_meta.specs.Parts.{Text}
 use Rattle.gql_rules.specs.Tests.{or_else, fault_if, first_of, first_in}
 use Rattle.gql_rules.specs.Schema.{Definition, Schema, scalar, object, interface, union, enum, input_object, subscription, upload, is_input_object}
 use Rattle.gql_rules.specs.InputCycles.{reaches_itself}
 use Rattle.gql_rules.specs.Faults.{Fault, input_cycle}
 use Rattle.gql_rules.specs.Rules.{first_cycle, input_fault, input_field_fault}
-use Rattle.gql_rules.proofs.Texts.{bytes_eq-true, bytes_eq-same}
 use Rattle.gql_check.specs.Search.{is_found}
 
 -- what was found reaches itself
@@ -21,11 +21,11 @@ found_cycle s (t ∷ ts) n h = found_step s t (first_cycle s ts) n (is_input_obj
 
 not_found : (s : Schema) (t : Text) (cycle : Option Text) → reaches_itself s t ≡ false → ((n : Text) → cycle ≡ Some n → reaches_itself s n ≡ true) → (b : Bool) → is_found t cycle ≡ b → b ≡ false
 not_found s t None e k b h = sym h
-not_found s t (Some n) e k true h = let same : t ≡ n = bytes_eq-true t n h in cc (e, k n refl, ap (reaches_itself s) same)
+not_found s t (Some n) e k true h = let same : t ≡ n = (bytes_eq-Decides t n).0 h in cc (e, k n refl, ap (reaches_itself s) same)
 not_found s t (Some n) e k false h = refl
 
 exact_step : (s : Schema) (t : Text) (more : Option Text) (r : Bool) → reaches_itself s t ≡ r → ((n : Text) → more ≡ Some n → reaches_itself s n ≡ true) → is_found t (or_else (fault_if r t) more) ≡ r
-exact_step s t more true e k = bytes_eq-same t
+exact_step s t more true e k = (bytes_eq-Decides t t).1 refl
 exact_step s t more false e k = not_found s t more e k (is_found t more) refl
 
 -- an input object at the front reaches itself exactly where it is the one found

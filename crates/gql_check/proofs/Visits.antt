@@ -2,39 +2,29 @@
 use Rattle.std.proofs.Common.{arith, ◌*◌, ◌⊎◌, inl, inr, ◌≡◌, ◌≤◌, ◌+◌, ℕ, suc, Bool, true, false, cond, not, ◌++◌, List, [], ◌∷◌, length, Option, Some, None, refl, sym, ap, ◌∙◌, subst, length-append}
 use Rattle.std.specs.List.{flat_map}
 use Rattle.std.specs.Str.{bytes_eq}
-use Rattle.std.proofs.lemmas.List.Folds.{list_any-append}
+use Rattle.std.proofs.lemmas.Slice.Eq.{bytes_eq-Decides}
 use Rattle.gql_value.specs.TypeRefs.{Reference, named, non_null, list_of}
 use Rattle.gql_meta.specs.Parts.{Text, at_text, is_among}
 use Rattle.gql_rules.specs.Schema.{Input, Definition, Schema, is_input_object, passes}
 use Rattle.gql_rules.specs.InputCycles.{needed_by, input_fields_of, needs, reaches, reaches_itself, Reaches, directly, through}
-use Rattle.gql_rules.proofs.Texts.{bytes_eq-true, bytes_eq-same, or_true, or_left, or_right}
-use Rattle.gql_rules.proofs.Reaching.{reaches-decides}
-use Rattle.gql_rules.proofs.Finiteness.{reached_over}
-use Rattle.gql_check.specs.Search.{Looked, From, Searching, Visited, weight, field_count, visited_fields, room, field_total, input_count}
+use Rattle.gql_rules.specs.Laws.{DecidesReaching}
+use Rattle.gql_check.specs.Counts.{weight, field_count, field_total, input_count}
+use Rattle.gql_check.specs.Search.{Looked, From, Searching, Visited, visited_fields, room}
+use Rattle.gql_check.proofs.Among.{among_append, among_left, among_right, only, among_one}
 
 different : true ≡ false → ⊥
 different e = cc e
 
-among_append : (x : Text) (xs ys : List Text) → is_among x (xs ++ ys) ≡ true → (is_among x xs ≡ true) ⊎ (is_among x ys ≡ true)
-among_append x xs ys m = or_true (is_among x xs) (is_among x ys) (sym (list_any-append (bytes_eq x) xs ys) ∙ m)
-
-among_left : (x : Text) (xs ys : List Text) → is_among x xs ≡ true → is_among x (xs ++ ys) ≡ true
-among_left x xs ys m = list_any-append (bytes_eq x) xs ys ∙ or_left (is_among x xs) (is_among x ys) m
-
-among_right : (x : Text) (xs ys : List Text) → is_among x ys ≡ true → is_among x (xs ++ ys) ≡ true
-among_right x xs ys m = list_any-append (bytes_eq x) xs ys ∙ or_right (is_among x xs) (is_among x ys) m
-
-only : (x n : Text) → is_among x (n ∷ []) ≡ true → x ≡ n
-only x n m = elim (or_true (bytes_eq x n) false m) [ inl e ↦ bytes_eq-true x n e | inr e ↦ cc e ]
-
-among_one : (n : Text) → is_among n (n ∷ []) ≡ true
-among_one n = or_left (bytes_eq n n) false (bytes_eq-same n)
+-- a way, and then another
+ways_joined : (s : Schema) (b c a : Text) → Reaches s b a → Reaches s c b → Reaches s c a
+ways_joined s b c a (directly _ m) way = through a b m way
+ways_joined s b c a (through _ d m more) way = through a d m (ways_joined s b c d more way)
 
 module _ (s : Schema) (start : Text) where
   -- a way of two parts
   onward : (x c : Text) → From s start x → is_among c (needs s x) ≡ true → Reaches s c start
   onward x c (inl e) m = subst (Reaches s c) e (directly x m)
-  onward x c (inr way) m = reached_over s x c start way (directly x m)
+  onward x c (inr way) m = ways_joined s x c start way (directly x m)
 
   pub visit_found : (done rest : List Text) (n : Text) → Searching s start done (rest ++ n ∷ []) → is_among start (needs s n) ≡ true → Reaches s start start
   visit_found done rest n h m = onward n start (h.waiting_from n (among_right n rest (n ∷ []) (among_one n))) m
@@ -101,8 +91,8 @@ module _ (s : Schema) (start : Text) where
   none_back done h x (directly _ m) d = different (sym m ∙ h.no_way x d)
   none_back done h x (through _ c m way) d = none_back done h c way (elim (h.closed x c d m) [ inl e ↦ e | inr e ↦ cc e ])
 
-  pub search_ended : (done : List Text) → Searching s start done [] → reaches_itself s start ≡ false
-  search_ended done h = none_true (reaches s start start) (λ e. none_back done h start ((reaches-decides s start start).0 e) (elim h.begun [ inl e ↦ e | inr e ↦ cc e ]))
+  pub search_ended : DecidesReaching reaches → (done : List Text) → Searching s start done [] → reaches_itself s start ≡ false
+  search_ended decides done h = none_true (reaches s start start) (λ e. none_back done h start ((decides s start start).0 e) (elim h.begun [ inl e ↦ e | inr e ↦ cc e ]))
     where
       none_true : (b : Bool) → (b ≡ true → ⊥) → b ≡ false
       none_true true f = absurd (f refl)
@@ -137,7 +127,7 @@ weight-add w p q n d [] h e f k = cc k
 weight-add w p q n d (t ∷ ts) h e f k = pick (bytes_eq n t.0) refl k (weight-add w p q n d ts h e f)
   where
     pick : (b : Bool) → bytes_eq n t.0 ≡ b → cond b (Some t.1) (at_text n ts) ≡ Some d → (at_text n ts ≡ Some d → w d + weight w p ts ≤ weight w q ts) → w d + weight w p (t ∷ ts) ≤ weight w q (t ∷ ts)
-    pick true g k ih = let same : n ≡ t.0 = bytes_eq-true n t.0 g in let value : t.1 ≡ d = cc k in
+    pick true g k ih = let same : n ≡ t.0 = (bytes_eq-Decides n t.0).0 g in let value : t.1 ≡ d = cc k in
         subst (λ v. w v + weight w p (t ∷ ts) ≤ weight w q (t ∷ ts)) value
         (weight_here (p t.0) (q t.0) (w t.1) (weight w p ts) (weight w q ts) (subst (λ x. p x ≡ false) same e) (subst (λ x. q x ≡ true) same f) (weight-le w p q ts h))
     pick false g k ih = weight_there (p t.0) (q t.0) (w d) (w t.1) (weight w p ts) (weight w q ts) (h t.0) (ih k)
@@ -202,12 +192,12 @@ visited_room s start n done rest done_new rest_new true a look e f = absurd (dif
 visited_room s start n done rest done_new rest_new false a look e f =
     subst (λ d. room s d rest_new ≤ room s done rest) (sym e) (subst (λ r. room s (done ++ n ∷ []) r ≤ room s done rest) (sym look.1) (room_visited s done rest n a))
 
-pub found_way : (s : Schema) (start : Text) (found : Bool) (done waiting : List Text) → found ≡ true → Visited found s start done waiting → true ≡ reaches_itself s start
-found_way s start true done waiting e v = sym ((reaches-decides s start start).1 v)
-found_way s start false done waiting e v = absurd (different (sym e))
+pub found_way : DecidesReaching reaches → (s : Schema) (start : Text) (found : Bool) (done waiting : List Text) → found ≡ true → Visited found s start done waiting → true ≡ reaches_itself s start
+found_way decides s start true done waiting e v = sym ((decides s start start).1 v)
+found_way decides s start false done waiting e v = absurd (different (sym e))
 
-pub no_way_found : (s : Schema) (start : Text) (done waiting : List Text) → waiting ≡ [] → Searching s start done waiting → false ≡ reaches_itself s start
-no_way_found s start done waiting e h = sym (search_ended s start done (subst (Searching s start done) e h))
+pub no_way_found : DecidesReaching reaches → (s : Schema) (start : Text) (done waiting : List Text) → waiting ≡ [] → Searching s start done waiting → false ≡ reaches_itself s start
+no_way_found decides s start done waiting e h = sym (search_ended s start decides done (subst (Searching s start done) e h))
 
 pub as_waiting : (s : Schema) (start : Text) (done all rest : List Text) (n : Text) → all ≡ rest ++ n ∷ [] → Searching s start done all → Searching s start done (rest ++ n ∷ [])
 as_waiting s start done all rest n e h = subst (Searching s start done) e h

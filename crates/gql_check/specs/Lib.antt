@@ -1,3 +1,4 @@
 pub mod Definitions
 pub mod Views
+pub mod Counts
 pub mod Search

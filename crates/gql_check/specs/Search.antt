@@ -1,29 +1,11 @@
--- How many input objects there are and how many fields they have, and a search from one of them.
-use Rattle.std.specs.Prelude.{◌⊎◌, not, suc, ◌≡◌, ◌+◌, ℕ, Bool, true, false, cond, List, [], ◌∷◌, ◌++◌, map, length, Option, Some, None}
+-- A search for a way back to an input object: what it has visited, and what waits to be visited.
+use Rattle.std.specs.Prelude.{◌⊎◌, not, suc, ◌≡◌, ◌+◌, ℕ, Bool, true, false, List, [], ◌∷◌, ◌++◌, map, length, Option, Some, None}
 use Rattle.std.specs.Borrow.{Bor}
 use Rattle.std.specs.Str.{bytes_eq}
 use Rattle.gql_meta.specs.Parts.{Text, is_among}
-use Rattle.gql_rules.specs.Schema.{Input, Definition, Schema, is_input_object}
-use Rattle.gql_rules.specs.InputCycles.{input_fields_of, needs, Reaches}
-
-abbrev pub input_count : List (Text × Definition) → ℕ
-input_count [] = 0
-input_count (type ∷ types) = cond (is_input_object type.1) 1 0 + input_count types
-
--- the fields that a type has as an input object
-abbrev pub field_count : Definition → ℕ
-field_count type = length (input_fields_of (Some type))
-
--- the weights of the types whose names pass
-abbrev pub weight : (Definition → ℕ) → (Text → Bool) → List (Text × Definition) → ℕ
-weight of passes [] = 0
-weight of passes (type ∷ types) = cond (passes type.0) (of type.1) 0 + weight of passes types
-
--- the fields of all input objects
-abbrev pub field_total : Schema → ℕ
-field_total s = weight field_count (λ name. true) s.types
-
--- ---- the search's functions
+use Rattle.gql_rules.specs.Schema.{Input, Schema}
+use Rattle.gql_rules.specs.InputCycles.{needs, Reaches}
+use Rattle.gql_check.specs.Counts.{field_count, weight}
 
 -- whether a name is the one that was found
 abbrev pub is_found : Text → Option Text → Bool

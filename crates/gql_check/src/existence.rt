@@ -1,6 +1,6 @@
 //! Names that are taken, and names that must exist.
 
-ghost use Rattle.std.specs.Prelude.{◌≡◌, map};
+ghost use Rattle.std.specs.Prelude.{map};
 ghost use Rattle.std.specs.Option.{option_map};
 ghost use Rattle.gql_meta.specs.Views.{entries_of, text_of};
 ghost use Rattle.gql_parts.specs.Views.{field_parts, input_value_parts, subscription_field_parts};

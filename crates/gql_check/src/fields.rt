@@ -1,6 +1,6 @@
 //! The rules of fields of objects and interfaces, and of their arguments.
 
-ghost use Rattle.std.specs.Prelude.{◌≡◌, not};
+ghost use Rattle.std.specs.Prelude.{not};
 ghost use Rattle.gql_value.specs.TypeRefs.{innermost};
 ghost use Rattle.gql_meta.specs.Views.{entries_of};
 ghost use Rattle.gql_parts.specs.Views.{field_parts, input_value_parts};

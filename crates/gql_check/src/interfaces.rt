@@ -1,6 +1,6 @@
 //! The rules of interfaces.
 
-ghost use Rattle.std.specs.Prelude.{◌≡◌, map};
+ghost use Rattle.std.specs.Prelude.{map};
 ghost use Rattle.gql_meta.specs.Views.{entries_of, text_of};
 ghost use Rattle.gql_parts.specs.Views.{field_parts};
 ghost use Rattle.gql_rules.specs.Tests.{fault_if, first_in, first_of};

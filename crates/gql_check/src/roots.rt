@@ -1,6 +1,5 @@
 //! The kinds of the roots.
 
-ghost use Rattle.std.specs.Prelude.{◌≡◌};
 ghost use Rattle.gql_rules.specs.Schema.{is_object, is_subscription};
 ghost use Rattle.gql_rules.specs.Faults.{query_root, mutation_root, subscription_root};
 ghost use Rattle.gql_rules.specs.Rules.{roots_fault, root_fault, optional_root_fault};

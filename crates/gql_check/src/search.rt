@@ -13,13 +13,15 @@ ghost use Rattle.gql_rules.specs.InputCycles.{needed_by, needs, input_fields_of,
 ghost use Rattle.gql_rules.specs.Rules.{first_cycle};
 ghost use Rattle.gql_check.specs.Definitions.{inputs_of};
 ghost use Rattle.gql_check.specs.Views.{schema_of, definition_of};
-ghost use Rattle.gql_check.specs.Search.{Looked, Searching, Visited, texts_in, one_or_none, fields_or_none, visited_fields, room, field_total, input_count};
+ghost use Rattle.gql_check.specs.Counts.{field_total, input_count};
+ghost use Rattle.gql_check.specs.Search.{Looked, Searching, Visited, texts_in, one_or_none, fields_or_none, visited_fields, room};
 
 use crate::kinds::is_input_object;
 use crate::names::names_input_object;
 use crate::steps::Steps;
 use crate::types::SchemaTypes;
 use gql_dynamic::{InputValue, OutOfMemory, SchemaType};
+use gql_rules::cycle_laws;
 use gql_value::TypeRef;
 use indexmap::{IndexMap, IndexSet};
 use std::alloc::Global;
@@ -174,7 +176,8 @@ fn visit<'a, L: Ledger>(
     Ok(found)
 }
 
-/// Whether an input object needs itself. Each field is looked at once at most.
+/// Whether an input object needs itself: what the search finds is what is reached, as `cycle_laws` has it. Each field is
+/// looked at once at most.
 fn search<'a, L: Ledger>(
     alloc: Global,
     types: &'a SchemaTypes,
@@ -184,6 +187,7 @@ fn search<'a, L: Ledger>(
     ensures found { IfOk result (λ found. found ≡ reaches_itself (schema_of types.now) start.now) }
     ensures cost { steps.new ≤ steps.old + field_total (schema_of types.now) }
 {
+    cycle_laws();
     let mut done = IndexSet::new(alloc);
     let mut waiting = Vec::new(alloc);
     waiting.push(start)?;

@@ -1,6 +1,6 @@
 //! The rules of unions.
 
-ghost use Rattle.std.specs.Prelude.{◌≡◌, map};
+ghost use Rattle.std.specs.Prelude.{map};
 ghost use Rattle.gql_meta.specs.Views.{text_of};
 ghost use Rattle.gql_rules.specs.Tests.{first_in};
 ghost use Rattle.gql_rules.specs.Rules.{member_fault, union_fault};

@@ -1,32 +1,32 @@
 -- Names that no type has yet.
-use Rattle.std.proofs.Common.{◌≡◌, Bool, true, false, ◌||◌, List, [], ◌∷◌, map, refl, ap, sym, subst, ◌∙◌, Some, None}
+use Rattle.std.proofs.Common.{◌≡◌, Bool, true, false, ◌||◌, List, [], ◌∷◌, ◌++◌, map, refl, ap, sym, subst, ◌∙◌, Some, None}
 use Rattle.std.specs.Prelude.{codes}
 use Rattle.std.specs.declared.option.Option.{Option}
+use Rattle.std.specs.declared.result.Result.{Result}
+use Rattle.std.specs.declared.result.Result.TheVariants.{Ok, Err}
+use Rattle.std.specs.Result.{OnOk}
 use Rattle.std.specs.declared.cmp.Ordering.{Ordering}
 use Rattle.std.specs.declared.cmp.Ordering.TheVariants.{Less, Equal, Greater}
-use Rattle.std.specs.declared.string.String.{String}
-use Rattle.std.specs.declared.alloc.Global.{Global}
 use Rattle.std.specs.List.{AllByRecursion, IsDistinct}
-use Rattle.std.specs.Map.{keys_of, values_of}
+use Rattle.std.specs.Map.{keys_of}
 use Rattle.std.specs.Str.{bytes_eq}
-use Rattle.std.specs.String.{string_eq}
 use Rattle.std.specs.BTreeMap.{insert_entry}
 use Rattle.std.specs.Ordering.{match_ordering, is_eq}
 use Rattle.std.specs.Cmp.Lexicographic.{nat_list_eq_equiv}
-use Rattle.std.proofs.lemmas.Map.Keys.{IsDistinct-head, IsDistinct-tail}
+use Rattle.std.proofs.lemmas.Map.Keys.{IsDistinct-head, IsDistinct-tail, IsDistinct-push}
 use Rattle.std.proofs.lemmas.Map.Text.{is_eq-slice_cmp}
 use Rattle.std.proofs.lemmas.Slice.Eq.{bytes_eq-Decides}
 use Rattle.gql_meta.specs.Parts.{Text, text_cmp, is_among, name_of}
-use Rattle.gql_meta.specs.Views.{text_of, entries_of}
 use Rattle.gql_registry.specs.Registry.{Contents}
 use Rattle.gql_registry.specs.Additions.{made, all_made, system_steps}
 use Rattle.gql_rules.specs.Schema.{is_system_scalar}
 use Rattle.gql_rules.specs.Tests.{fault_if, first_in, or_else}
 use Rattle.gql_rules.specs.Rules.{name_fault, first_fault}
+use Rattle.gql_types.specs.Types.{with_last}
 use Rattle.gql_dynamic.specs.Types.{TypeParts, type_name, type_meta}
 use Rattle.gql_check.specs.Definitions.{SchemaParts, definition, each_of, schema}
-use Rattle.gql_schema.specs.Recorded.{Recorded, roots_alone, type_step}
-use Rattle.gql_schema.specs.Names.{HasOwnNames, HasNoneOf}
+use Rattle.gql_schema.specs.Recorded.{Recorded, types_in, roots_alone, type_step}
+use Rattle.gql_schema.specs.Names.{HasOwnNames, HasDifferentNames, HasNoneOf}
 use Rattle.gql_schema.proofs.Steps.{name_of-type_meta}
 
 -- ---- names of entries
@@ -67,39 +67,56 @@ pub free_alike : (names ks ls : List Text) → ((name : Text) → is_among name 
 free_alike [] ks ls same h = tt
 free_alike (n ∷ ns) ks ls same h = (same n ∙ h.0, free_alike ns (n ∷ ks) (n ∷ ls) (λ m. ap (λ b. bytes_eq m n || b) (same m)) h.1)
 
-none_more : (names : List (String Global)) (k : String Global) (others : List Text) → AllByRecursion (λ y. string_eq k y ≡ false) names
-    → AllByRecursion (λ n. is_among n others ≡ false) (map text_of names) → AllByRecursion (λ n. is_among n (text_of k ∷ others) ≡ false) (map text_of names)
+none_more : (names : List Text) (k : Text) (others : List Text) → AllByRecursion (λ n. bytes_eq k n ≡ false) names
+    → AllByRecursion (λ n. is_among n others ≡ false) names → AllByRecursion (λ n. is_among n (k ∷ others) ≡ false) names
 none_more [] k others apart h = tt
-none_more (n ∷ ns) k others apart h = (
-  ap (λ b. b || is_among (text_of n) others) (nat_list_eq_equiv.symm (text_of n) (text_of k) ∙ apart.0) ∙ h.0,
-  none_more ns k others apart.1 h.1,
-)
+none_more (n ∷ ns) k others apart h = (ap (λ b. b || is_among n others) (nat_list_eq_equiv.symm n k ∙ apart.0) ∙ h.0, none_more ns k others apart.1 h.1)
 
 -- distinct names that are none of the others are free
-pub are_free : (names : List (String Global)) (others : List Text) → IsDistinct string_eq names → AllByRecursion (λ n. is_among n others ≡ false) (map text_of names) → AreFree (map text_of names) others
+are_free : (names others : List Text) → IsDistinct bytes_eq names → AllByRecursion (λ n. is_among n others ≡ false) names → AreFree names others
 are_free [] others distinct h = tt
 are_free (n ∷ ns) others distinct h = (
   h.0,
-  are_free ns (text_of n ∷ others) (IsDistinct-tail string_eq n ns distinct) (none_more ns n others (IsDistinct-head string_eq n ns distinct) h.1),
+  are_free ns (n ∷ others) (IsDistinct-tail bytes_eq n ns distinct) (none_more ns n others (IsDistinct-head bytes_eq n ns distinct) h.1),
 )
 
-values_names : {A : Type 0} (f : A → TypeParts) (es : List (String Global × A)) → map (λ e. type_name e.1) (entries_of f es) ≡ map type_name (map f (values_of es))
-values_names f [] = refl
-values_names f (e ∷ es) = ap (λ l. type_name (f e.1) ∷ l) (values_names f es)
+types_named : (es : List (Text × TypeParts)) → map type_name (map (λ entry. entry.1) es) ≡ map (λ entry. type_name entry.1) es
+types_named [] = refl
+types_named (e ∷ es) = ap (λ l. type_name e.1 ∷ l) (types_named es)
 
-keys_names : {A B : Type 0} (f : A → B) (es : List (String Global × A)) → keys_of (entries_of f es) ≡ map text_of (keys_of es)
-keys_names f [] = refl
-keys_names f (e ∷ es) = ap (λ l. text_of e.0 ∷ l) (keys_names f es)
+-- the names of the types are free where they are none of the others
+pub free_names : (parts : SchemaParts) (others : List Text) → HasOwnNames parts → HasDifferentNames parts → HasNoneOf others parts → AreFree (map type_name (types_in parts)) others
+free_names parts others own different none =
+    subst (λ names. AreFree names others) (sym (types_named parts.types ∙ own)) (are_free (keys_of parts.types) others different none)
 
--- the names of the types of a map are free, where each stands under its own name
-pub free_names : {A : Type 0} (f : A → TypeParts) (es : List (String Global × A)) (parts : SchemaParts) (others : List Text) → entries_of f es ≡ parts.types → HasOwnNames parts → HasNoneOf others parts
-    → IsDistinct string_eq (keys_of es) → AreFree (map type_name (map f (values_of es))) others
-free_names f es parts others same own none distinct =
-    let keys : keys_of parts.types ≡ map text_of (keys_of es) = ap keys_of (sym same) ∙ keys_names f es in
-    let names : map type_name (map f (values_of es)) ≡ map text_of (keys_of es) =
-    sym (values_names f es) ∙ ap (map (λ e. type_name e.1)) same ∙ own ∙ keys in
-    subst (λ names. AreFree names others) (sym names)
-    (are_free (keys_of es) others distinct (subst (λ names. AllByRecursion (λ n. is_among n others ≡ false) names) keys none))
+none_of_none : (names : List Text) → AllByRecursion (λ n. is_among n [] ≡ false) names
+none_of_none [] = tt
+none_of_none (n ∷ ns) = (refl, none_of_none ns)
+
+-- and they are free by themselves
+pub names_apart : (parts : SchemaParts) → HasOwnNames parts → HasDifferentNames parts → AreFree (map type_name (types_in parts)) []
+names_apart parts own different = free_names parts [] own different (none_of_none (keys_of parts.types))
+
+keys_last : (es : List (Text × TypeParts)) (n : Text) (type : TypeParts) → keys_of (with_last es n type) ≡ keys_of es ++ n ∷ []
+keys_last [] n type = refl
+keys_last (e ∷ es) n type = ap (λ l. e.0 ∷ l) (keys_last es n type)
+
+-- a type of a new name
+pub names_more : (before after : SchemaParts) (n : Text) (type : TypeParts) → after.types ≡ with_last before.types n type
+    → HasDifferentNames before → is_among n (keys_of before.types) ≡ false → HasDifferentNames after
+names_more before after n type e different new =
+    subst (λ names. IsDistinct bytes_eq names) (sym (ap (λ (types : List (Text × TypeParts)). keys_of types) e ∙ keys_last before.types n type))
+    (IsDistinct-push nat_list_eq_equiv (keys_of before.types) n different new)
+
+-- no types have no names
+pub no_names : (parts : SchemaParts) → parts.types ≡ [] → HasDifferentNames parts
+unfolding IsDistinct
+no_names parts e = subst (λ (types : List (Text × TypeParts)). IsDistinct bytes_eq (keys_of types)) (sym e) tt
+
+-- of two facts that hold after Ok
+pub on_ok_both : {T E P Q R : Type 0} (r : Result T E) → (P → Q → R) → OnOk r P → OnOk r Q → OnOk r R
+on_ok_both (Ok x) f p q = f p q
+on_ok_both (Err e) f p q = tt
 
 -- the names that are left stay free after a type more
 pub free_after : (names : List Text) (type : TypeParts) (before after : Contents) → after ≡ made before (type_step type) → AreFree (type_name type ∷ names) (keys_of before.types) → AreFree names (keys_of after.types)

@@ -1,3 +1,4 @@
 pub mod Recorded
 pub mod Names
 pub mod Views
+pub mod Implementers

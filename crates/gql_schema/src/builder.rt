@@ -1,8 +1,9 @@
 //! Building a schema: section 3.3 of the GraphQL specification, October 2021.
 
-ghost use Rattle.std.specs.Prelude.{◌≡◌, ◌++◌, ◌∷◌, [], true, false, IfOk, IfErr, OnOk, map};
+ghost use Rattle.std.specs.Prelude.{◌≡◌, ◌++◌, ◌∷◌, [], true, false, IfOk, IfErr, OnOk};
 ghost use Rattle.std.specs.Map.{keys_of};
 ghost use Rattle.std.specs.Option.{option_copied};
+ghost use Rattle.std.proofs.Props.{props};
 ghost use Rattle.gql_meta.specs.Views.{directive_of};
 ghost use Rattle.gql_types.specs.Types.{with_last};
 ghost use Rattle.gql_meta.specs.Parts.{is_among};
@@ -12,7 +13,7 @@ ghost use Rattle.gql_dynamic.specs.Errors.{Tells, TellsExisting};
 ghost use Rattle.gql_rules.specs.Rules.{first_fault};
 ghost use Rattle.gql_check.specs.Views.{schema_parts, schema_of};
 ghost use Rattle.gql_schema.specs.Recorded.{begun};
-ghost use Rattle.gql_schema.specs.Names.{HasOwnNames};
+ghost use Rattle.gql_schema.specs.Names.{HasOwnNames, HasDifferentNames};
 ghost use Rattle.gql_schema.specs.Views.{recorded_as};
 
 use crate::making::made_registry;
@@ -30,6 +31,7 @@ pub struct SchemaBuilder {
     pub(crate) directives: Vec<MetaDirective>,
     pub(crate) is_disabled: bool,
     ghost own: { HasOwnNames (schema_parts types) },
+    ghost different: { HasDifferentNames (schema_parts types) } by { Prim.hlevel props },
 }
 
 /// No types as yet. `_any` is never given, and the condition always holds: with both, the prover takes the function for
@@ -48,12 +50,13 @@ fn no_types(
 }
 
 fn put_type(types: &mut SchemaTypes, ty: Type) -> Result<(), SchemaError>
-    requires any_validator { true ≡ true }
     requires own { HasOwnNames (schema_parts types.old) }
+    requires different { HasDifferentNames (schema_parts types.old) }
     ensures added { OnOk result (schema_parts types.new ≡ record (schema_parts types.old) {
       types = with_last (schema_parts types.old).types (type_name (type_parts ty)) (type_parts ty);
     }) }
     ensures own { OnOk result (HasOwnNames (schema_parts types.new)) }
+    ensures different { OnOk result (HasDifferentNames (schema_parts types.new)) }
     ensures new { OnOk result (is_among (type_name (type_parts ty)) (keys_of (schema_parts types.old).types) ≡ false) }
     ensures exists { IfErr result (TellsExisting (type_name (type_parts ty)) (keys_of (schema_parts types.old).types)) }
 {

@@ -13,8 +13,8 @@ ghost use Rattle.gql_dynamic.specs.Views.{type_parts};
 ghost use Rattle.gql_dynamic.specs.Errors.{fault_of};
 ghost use Rattle.gql_rules.specs.Rules.{first_fault};
 ghost use Rattle.gql_check.specs.Views.{schema_parts, schema_of};
-ghost use Rattle.gql_schema.specs.Recorded.{Recorded, types_in, mode, type_step, object_steps, possible_steps, telling_steps, schema_contents};
-ghost use Rattle.gql_schema.specs.Names.{HasOwnNames, HasNoneOf};
+ghost use Rattle.gql_schema.specs.Recorded.{types_in, mode, type_step, object_steps, possible_steps, telling_steps, schema_contents};
+ghost use Rattle.gql_schema.specs.Names.{HasOwnNames, HasDifferentNames, HasNoneOf};
 
 use gql_check::SchemaTypes;
 use gql_dynamic::{Object, OutOfMemory, SchemaError, Type};
@@ -53,7 +53,6 @@ fn set_roots(
 
 /// Registers a type of a name that is new.
 fn add_type(registry: &mut Registry, ty: &Type) -> Result<(), SchemaError>
-    requires any_validator { true ≡ true }
     requires new { is_among (type_name (type_parts ty.now)) (keys_of (types_of registry.old)) ≡ false }
     ensures added { OnOk result (registry_of registry.new ≡ made (registry_of registry.old) (type_step (type_parts ty.now))) }
     ensures memory { IfErr result (λ error. fault_of error ≡ None) }
@@ -63,8 +62,8 @@ fn add_type(registry: &mut Registry, ty: &Type) -> Result<(), SchemaError>
 
 /// Registers types of names that are new.
 fn add_types(registry: &mut Registry, types: &SchemaTypes) -> Result<(), SchemaError>
-    requires any_validator { true ≡ true }
     requires own { HasOwnNames (schema_parts types.now) }
+    requires different { HasDifferentNames (schema_parts types.now) }
     requires new { HasNoneOf (keys_of (types_of registry.old)) (schema_parts types.now) }
     ensures added { OnOk result (registry_of registry.new ≡ all_made (registry_of registry.old) (map type_step (types_in (schema_parts types.now)))) }
     ensures memory { IfErr result (λ error. fault_of error ≡ None) }
@@ -139,8 +138,8 @@ pub(crate) fn made_registry(
     directives: &[MetaDirective],
     is_disabled: bool,
 ) -> Result<Registry, SchemaError>
-    requires any_validator { true ≡ true }
     requires own { HasOwnNames (schema_parts types.now) }
+    requires different { HasDifferentNames (schema_parts types.now) }
     requires valid { first_fault (schema_of types.now) ≡ None }
     ensures contents { IfOk result (λ registry. registry_of registry ≡ schema_contents (record {
       schema = schema_parts types.now;

@@ -3,11 +3,14 @@
 ghost use Rattle.std.specs.Prelude.{◌≡◌, None, IfOk};
 ghost use Rattle.std.specs.Option.{option_copied};
 ghost use Rattle.std.specs.Coded.{codes};
+ghost use Rattle.std.proofs.Props.{props};
 ghost use Rattle.gql_value.specs.contracts.const_value.ConstValue as const_value;
 ghost use Rattle.gql_registry.specs.Registry.{registry_of};
 ghost use Rattle.gql_rules.specs.Rules.{first_fault};
-ghost use Rattle.gql_check.specs.Views.{schema_of};
+ghost use Rattle.gql_check.specs.Views.{schema_parts, schema_of};
 ghost use Rattle.gql_schema.specs.Recorded.{begun, schema_contents};
+ghost use Rattle.gql_schema.specs.Names.{HasOwnNames, HasDifferentNames};
+ghost use Rattle.gql_schema.specs.Implementers.{KnowsImplementers};
 ghost use Rattle.gql_schema.specs.Views.{recorded_as};
 
 use crate::builder::SchemaBuilder;
@@ -24,6 +27,8 @@ pub struct Schema {
     pub(crate) directives: Vec<MetaDirective>,
     pub(crate) is_disabled: bool,
     pub(crate) registry: Registry,
+    pub ghost own: { HasOwnNames (schema_parts types) },
+    pub ghost different: { HasDifferentNames (schema_parts types) } by { Prim.hlevel props },
     pub ghost valid: { first_fault (schema_of types) ≡ None },
     pub ghost made: { registry_of registry ≡ schema_contents (recorded_as types directives is_disabled) } by { Prim.hlevel (codes, const_value.the_row.coded) },
 }
@@ -49,16 +54,19 @@ impl Schema {
         &self.types
     }
 
-    /// The registry that is made of the types, the added directives, and whether introspection was disabled.
+    /// The registry that is made of the types, the added directives, and whether introspection was disabled. The possible
+    /// types of an interface are the objects that implement it, in the order of registration.
     pub fn registry(&self) -> &Registry
-        ensures { registry_of result.now ≡ schema_contents (recorded_as self.now.types self.now.directives self.now.is_disabled) }
+        ensures implementers { KnowsImplementers (schema_parts self.now.types) (registry_of result.now) }
+        ensures made { registry_of result.now ≡ schema_contents (recorded_as self.now.types self.now.directives self.now.is_disabled) }
     {
         &self.registry
     }
 
     /// The same registry, for the caller.
     pub fn into_registry(self) -> Registry
-        ensures { registry_of result ≡ schema_contents (recorded_as self.types self.directives self.is_disabled) }
+        ensures implementers { KnowsImplementers (schema_parts self.types) (registry_of result) }
+        ensures made { registry_of result ≡ schema_contents (recorded_as self.types self.directives self.is_disabled) }
     {
         self.registry
     }

@@ -3,7 +3,7 @@ use Rattle.gql_meta.specs.Views.{entries_of}
 use Rattle.gql_dynamic.specs.Views.{type_parts}
 use Rattle.gql_check.specs.Definitions.{each_of, definition}
 use Rattle.gql_check.specs.Views.{schema_of, definition_of}
-use Rattle.gql_check.specs.Search.{field_total}
+use Rattle.gql_check.specs.Counts.{field_total}
 use Rattle.gql_check.proofs.Visits.{paid}
 use Rattle.gql_check.proofs.search.first_input_cycle.Goals as goal
 

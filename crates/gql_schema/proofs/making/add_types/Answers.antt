@@ -16,8 +16,9 @@ loop-ty-init g c =
     let others = keys_of (types_of c.args.registry.now) in
     let all : c.into_iter-ty-iterator.result ≡ entries = search rules in
     record {
-      free = subst (λ left. AreFree (map type_name (map type_parts (values_of left))) others) (sym all)
-          (free_names type_parts entries (schema_parts c.args.types.now) others c.types.ensures c.requires.own c.requires.new c.iter-ty-items.ensures.unique);
+      free = subst (λ types. AreFree (map type_name types) others)
+          (sym (ap (λ left. map type_parts (values_of left)) all ∙ sym (values_viewed type_parts entries) ∙ ap (map (λ entry. entry.1)) c.types.ensures))
+          (free_names (schema_parts c.args.types.now) others c.requires.own c.requires.different c.requires.new);
       all = refl;
     }
 
