@@ -1,7 +1,8 @@
 //! The rules of a schema in their order.
 
-ghost use Rattle.std.specs.Prelude.{◌≡◌, ◌<◌};
+ghost use Rattle.std.specs.Prelude.{◌≡◌, ◌<◌, OnOk};
 ghost use Rattle.std.specs.Option.{option_copied};
+ghost use Rattle.gql_rules.specs.InputCycles.{HasFiniteValues};
 ghost use Rattle.gql_rules.specs.Rules.{first_fault, first_cycle};
 ghost use Rattle.gql_dynamic.specs.Errors.{Tells};
 ghost use Rattle.gql_check.specs.Views.{schema_of};
@@ -16,14 +17,18 @@ use crate::steps::Steps;
 use crate::types::SchemaTypes;
 use crate::unions::check_unions;
 use gql_dynamic::SchemaError;
+use gql_rules::cycle_laws;
 use std::alloc::Global;
 use std::marker::Brand;
 use std::sync::ledger::{Blank, Ledger};
 
-/// The first rule that the types break, with the names that it tells.
+/// The first rule that the types break, with the names that it tells. Where none is broken, each input object has a finite
+/// value.
 pub fn check(alloc: Global, types: &SchemaTypes) -> Result<(), SchemaError>
-    ensures { Tells result (first_fault (schema_of types.now)) }
+    ensures first { Tells result (first_fault (schema_of types.now)) }
+    ensures finite { OnOk result (HasFiniteValues (schema_of types.now)) }
 {
+    cycle_laws();
     check_uncounted::<Brand>(alloc, types, Blank::new(1))
 }
 

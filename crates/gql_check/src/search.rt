@@ -1,7 +1,7 @@
 //! The search for the first input object that needs itself: section 3.10, circular references, of the GraphQL
 //! specification, October 2021.
 
-ghost use Rattle.std.specs.Prelude.{◌≡◌, ◌+◌, ◌*◌, ◌&&◌, cond, ◌++◌, ◌≤◌, ◌∷◌, [], Some, IfOk, OnOk, OnErr, length, false};
+ghost use Rattle.std.specs.Prelude.{◌≡◌, ◌↔◌, ◌+◌, ◌*◌, ◌&&◌, cond, ◌++◌, ◌≤◌, ◌∷◌, [], Some, None, IfOk, OnOk, OnErr, length, false};
 ghost use Rattle.std.specs.List.{flat_map};
 ghost use Rattle.std.specs.Option.{option_copied, option_map};
 ghost use Rattle.gql_value.specs.TypeRefs.{reference};
@@ -9,7 +9,7 @@ ghost use Rattle.gql_meta.specs.Parts.{at_text, is_among};
 ghost use Rattle.gql_meta.specs.Views.{entries_of};
 ghost use Rattle.gql_parts.specs.Views.{input_value_parts};
 ghost use Rattle.gql_rules.specs.Schema.{is_input_object};
-ghost use Rattle.gql_rules.specs.InputCycles.{needed_by, needs, input_fields_of, reaches_itself};
+ghost use Rattle.gql_rules.specs.InputCycles.{needed_by, needs, input_fields_of, reaches_itself, HasFiniteValues};
 ghost use Rattle.gql_rules.specs.Rules.{first_cycle};
 ghost use Rattle.gql_check.specs.Definitions.{inputs_of};
 ghost use Rattle.gql_check.specs.Views.{schema_of, definition_of};
@@ -215,10 +215,8 @@ fn is_cyclic<'a, L: Ledger>(
     search(alloc, types, name, steps)
 }
 
-/// The first input object, in the order of registration, that needs itself: it is reached by one or more fields of
-/// types of the form `N!`. A look at a field is a step, and with I input objects that have F fields in all there are
-/// at most I * F of them.
-pub fn first_input_cycle<'a, L: Ledger>(
+/// The first input object, in the order of registration, that needs itself.
+fn first_cyclic<'a, L: Ledger>(
     alloc: Global,
     types: &'a SchemaTypes,
     steps: &mut Steps<L>,
@@ -232,4 +230,21 @@ pub fn first_input_cycle<'a, L: Ledger>(
         }
     }
     Ok(None)
+}
+
+/// The first input object, in the order of registration, that needs itself: it is reached by one or more fields of
+/// types of the form `N!`. There is none exactly where each input object has a finite value. A look at a field is a step,
+/// and with I input objects that have F fields in all there are at most I * F of them.
+pub fn first_input_cycle<'a, L: Ledger>(
+    alloc: Global,
+    types: &'a SchemaTypes,
+    steps: &mut Steps<L>,
+) -> Result<Option<&'a str>, OutOfMemory>
+    ensures first { IfOk result (λ found. option_copied found ≡ first_cycle (schema_of types.now) (schema_of types.now).types) }
+    ensures finite { IfOk result (λ found. (option_copied found ≡ None) ↔ HasFiniteValues (schema_of types.now)) }
+    ensures cost { steps.new ≤ steps.old + input_count (schema_of types.now).types * field_total (schema_of types.now) }
+{
+    cycle_laws();
+    let found = first_cyclic(alloc, types, steps)?;
+    Ok(found)
 }

@@ -1,10 +1,9 @@
 //! Types of a schema, and their registration: section 3.4 of the GraphQL specification, October 2021.
 
-ghost use Rattle.std.specs.Prelude.{◌≡◌, [], false, IfOk, IfErr, OnOk, OnErr, map, true};
+ghost use Rattle.std.specs.Prelude.{◌≡◌, false, IfErr, OnOk, OnErr};
 ghost use Rattle.std.specs.Map.{keys_of};
-ghost use Rattle.std.specs.Option.{option_map, option_map_or};
-ghost use Rattle.gql_meta.specs.Parts.{name_of, is_among};
-ghost use Rattle.gql_meta.specs.Views.{text_of, meta_of};
+ghost use Rattle.std.specs.Option.{option_map};
+ghost use Rattle.gql_meta.specs.Parts.{is_among};
 ghost use Rattle.gql_registry.specs.Registry.{registry_of, types_of, with_type, with_all_implements};
 ghost use Rattle.gql_types.specs.Views.{object_parts, interface_parts, input_object_parts, subscription_parts};
 ghost use Rattle.gql_dynamic.specs.Types.{type_name, type_meta, interfaces, object_of, interface_of, input_object_of, subscription_of, is_output, is_input};
@@ -13,7 +12,7 @@ ghost use Rattle.gql_dynamic.specs.Errors.{TellsExisting};
 ghost use Rattle.gql_dynamic.specs.declared.schema_type.SchemaType.TheVariants as variant;
 
 use crate::schema_error::SchemaError;
-use gql_meta::{MetaType, OutOfMemory};
+use gql_meta::OutOfMemory;
 use gql_registry::Registry;
 use gql_types::{Enum, InputObject, Interface, Object, Scalar, Subscription, Union};
 use indexmap::IndexSet;
@@ -131,67 +130,39 @@ impl SchemaType {
         ensures exists { IfErr result (TellsExisting (type_name (type_parts self.now)) (keys_of (types_of registry.old))) }
         ensures refused { OnErr result (registry_of registry.new ≡ registry_of registry.old) }
     {
-        let alloc = registry.allocator();
         if registry.has_type(self.name()) {
             return Err(SchemaError::AlreadyExists {
-                name: String::from_str(alloc, self.name())?,
+                name: String::from_str(registry.allocator(), self.name())?,
             });
         }
-        let ty = self.meta(alloc)?;
-        add(registry, ty, self.implements())?;
+        self.add_new(registry)?;
         Ok(())
     }
 
-    /// The type that is registered. The condition always holds: with one, the prover takes the function for every
-    /// validator that the type may hold.
-    fn meta(&self, alloc: Global) -> Result<MetaType, OutOfMemory>
-        requires any_validator { true ≡ true }
-        ensures parts { IfOk result (λ ty. meta_of ty ≡ type_meta (type_parts self.now)) }
-        ensures name { IfOk result (λ ty. name_of (meta_of ty) ≡ type_name (type_parts self.now)) }
+    /// Adds it, with the interfaces that it implements, to a registry that has no type of its name: all of that, or
+    /// nothing.
+    fn add_new(&self, registry: &mut Registry) -> Result<(), OutOfMemory>
+        requires { is_among (type_name (type_parts self.now)) (keys_of (types_of registry.old)) ≡ false }
+        ensures added { OnOk result (registry_of registry.new ≡ record (registry_of registry.old) {
+          types = with_type (types_of registry.old) (type_meta (type_parts self.now));
+          implements = with_all_implements (type_name (type_parts self.now)) (registry_of registry.old).implements (interfaces (type_parts self.now));
+        }) }
+        ensures refused { OnErr result (registry_of registry.new ≡ registry_of registry.old) }
     {
+        let alloc = registry.allocator();
+        let none = IndexSet::new(alloc);
         match self {
-            SchemaType::Scalar(ty) => ty.meta(alloc),
-            SchemaType::Object(ty) => ty.meta(alloc),
-            SchemaType::InputObject(ty) => ty.meta(alloc),
-            SchemaType::Enum(ty) => ty.meta(alloc),
-            SchemaType::Interface(ty) => ty.meta(alloc),
-            SchemaType::Union(ty) => ty.meta(alloc),
-            SchemaType::Subscription(ty) => ty.meta(alloc),
-            SchemaType::Upload => Scalar::new(alloc, "Upload")?.meta(alloc),
-        }
-    }
-
-    /// The names of the interfaces that it implements; None for a type of a kind that implements none.
-    fn implements(&self) -> Option<&IndexSet<String>>
-        ensures { option_map_or (λ names. map text_of names.now.keys) result [] ≡ interfaces (type_parts self.now) }
-    {
-        match self {
-            SchemaType::Object(ty) => Some(ty.implements()),
-            SchemaType::Interface(ty) => Some(ty.implements()),
-            _ => None,
-        }
-    }
-}
-
-/// Adds a type with the names of the interfaces that it implements: all of that, or nothing. The condition always
-/// holds: with one, the prover takes the function for every validator that the registry may hold.
-fn add(
-    registry: &mut Registry,
-    ty: MetaType,
-    names: Option<&IndexSet<String>>,
-) -> Result<(), OutOfMemory>
-    requires any_validator { true ≡ true }
-    ensures added { OnOk result (registry_of registry.new ≡ record (registry_of registry.old) {
-      types = with_type (types_of registry.old) (meta_of ty);
-      implements = with_all_implements (name_of (meta_of ty)) (registry_of registry.old).implements (option_map_or (λ names. map text_of names.now.keys) names.entry []);
-    }) }
-    ensures refused { OnErr result (registry_of registry.new ≡ registry_of registry.old) }
-{
-    match names {
-        Some(names) => registry.add_type(ty, names),
-        None => {
-            let none = IndexSet::new(registry.allocator());
-            registry.add_type(ty, &none)
+            SchemaType::Scalar(ty) => registry.add_type(ty.meta(alloc)?, &none),
+            SchemaType::Object(ty) => registry.add_type(ty.meta(alloc)?, ty.implements()),
+            SchemaType::InputObject(ty) => registry.add_type(ty.meta(alloc)?, &none),
+            SchemaType::Enum(ty) => registry.add_type(ty.meta(alloc)?, &none),
+            SchemaType::Interface(ty) => registry.add_type(ty.meta(alloc)?, ty.implements()),
+            SchemaType::Union(ty) => registry.add_type(ty.meta(alloc)?, &none),
+            SchemaType::Subscription(ty) => registry.add_type(ty.meta(alloc)?, &none),
+            SchemaType::Upload => {
+                let upload = Scalar::new(alloc, "Upload")?;
+                registry.add_type(upload.meta(alloc)?, &none)
+            }
         }
     }
 }

@@ -5,7 +5,7 @@ use crate::{
     SchemaError, Subscription, SubscriptionField, Type, Union,
 };
 use gql_lexer::Number;
-use gql_meta::{ConstValue, MetaType, MetaTypeId};
+use gql_meta::{ConstValue, MetaType, MetaTypeId, ScalarValidator};
 use gql_registry::Registry;
 use gql_value::TypeRef;
 use std::alloc::Global;
@@ -178,6 +178,39 @@ fn a_subscription_is_registered_as_an_object(rt: HostRuntime) {
 fn uploads_are_registered_as_a_scalar(rt: HostRuntime) {
     let types = registered(&rt, rt.alloc(), &Type::Upload);
     assert_eq!(rt; types.as_str(), "Scalar Upload; ");
+}
+
+fn is_number(value: &ConstValue) -> bool {
+    match value {
+        ConstValue::Number(_) => true,
+        _ => false,
+    }
+}
+
+/// Whether the validator of a type takes the value.
+fn takes(ty: &MetaType, value: &ConstValue) -> bool {
+    match ty {
+        MetaType::Scalar {
+            is_valid: Some(validator),
+            ..
+        } => validator.check(value),
+        _ => false,
+    }
+}
+
+#[test]
+fn a_registered_scalar_keeps_its_validator(rt: HostRuntime) {
+    let mut registry = Registry::new(rt.alloc());
+    let scalar = Scalar::new(rt.alloc(), "S").expect(&rt, "memory");
+    let ty = Type::from(scalar.validator(ScalarValidator::new(is_number)));
+    ty.register(&mut registry).expect(&rt, "memory");
+    let ty = registry.types().get("S").expect(&rt, "the type");
+    let one = ConstValue::Number(Number::from_i64(1));
+    assert!(rt; takes(ty, &one));
+    assert!(rt; !takes(ty, &ConstValue::Null));
+    let copy = ty.try_clone(rt.alloc()).expect(&rt, "memory");
+    assert!(rt; takes(&copy, &one));
+    assert!(rt; !takes(&copy, &ConstValue::Null));
 }
 
 #[test]

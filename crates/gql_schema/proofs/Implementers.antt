@@ -12,11 +12,11 @@ use Rattle.std.proofs.lemmas.Map.Text.{is_eq-slice_cmp}
 use Rattle.std.proofs.lemmas.Slice.Eq.{bytes_eq-Decides}
 use Rattle.gql_meta.specs.Parts.{Text, text_cmp, at_text, is_among, Directive, Field, Meta, name_of}
 use Rattle.gql_registry.specs.Registry.{Contents, with_name, with_possible}
-use Rattle.gql_registry.specs.Additions.{Step, directive, missing_type, query_field, possible_type, made, all_made, object_with, system_steps}
+use Rattle.gql_registry.specs.Additions.{Step, directive, missing_type, query_field, possible_type, made, all_made, object_with}
 use Rattle.gql_registry.specs.Introspection.{introspection_types, query_fields}
 use Rattle.gql_types.specs.Types.{ObjectParts, InterfaceParts, interface_meta}
 use Rattle.gql_dynamic.specs.Types.{TypeParts, scalar, object, input_object, enum, interface, union, subscription, upload, type_name, type_meta, object_of}
-use Rattle.gql_schema.specs.Recorded.{Recorded, types_in, roots_alone, type_step, object_steps, possible_steps, telling_steps, schema_contents}
+use Rattle.gql_schema.specs.Recorded.{Recorded, types_in, type_step, object_steps, possible_steps, telling_steps, system_contents, type_contents, directive_contents, possible_contents, schema_contents}
 use Rattle.gql_schema.specs.Names.{HasOwnNames, HasDifferentNames}
 use Rattle.gql_schema.specs.Implementers.{implementer, possible_among, KnowsImplementers}
 use Rattle.gql_schema.proofs.Keys.{AreFree, names_apart}
@@ -283,22 +283,12 @@ module _ (name : Text) (parts : InterfaceParts) where
 
 -- ---- the registry of a schema
 
-parted : (before : Contents) (s t u v w : List Step) → all_made before (s ++ t ++ u ++ v ++ w) ≡ all_made (all_made (all_made (all_made (all_made before s) t) u) v) w
-parted before s t u v w =
-    all_made-append before (s ++ t ++ u ++ v) w
-    ∙ ap (λ made. all_made made w) (all_made-append before (s ++ t ++ u) v
-    ∙ ap (λ made. all_made made v) (all_made-append before (s ++ t) u
-    ∙ ap (λ made. all_made made u) (all_made-append before s t)))
-
 pub knows_implementers : (recorded : Recorded) → HasOwnNames recorded.schema → HasDifferentNames recorded.schema → KnowsImplementers recorded.schema (schema_contents recorded)
 knows_implementers recorded own different name parts found =
     let types = types_in recorded.schema in
     let free = names_apart recorded.schema own different in
-    let system = all_made (roots_alone recorded) system_steps in
-    let registered = all_made system (map type_step types) in
-    let directed = all_made registered (map directive recorded.directives) in
-    let possible = all_made directed (flat_map possible_steps types) in
-    let there = types_there name recorded.schema.types [] (interface parts) own free found system in
+    let registered = type_contents recorded in
+    let directed = directive_contents recorded in
+    let there = types_there name recorded.schema.types [] (interface parts) own free found (system_contents recorded) in
     let kept : at_text name directed.types ≡ Some (known name parts []) = ap (at_text name) (directives_apart name recorded.directives registered) ∙ there in
-    ap (λ contents. at_text name contents.types) (parted (roots_alone recorded) system_steps (map type_step types) (map directive recorded.directives) (flat_map possible_steps types) (telling_steps recorded.is_disabled))
-    ∙ told name parts recorded.is_disabled (flat_map (implementer name) types) possible (implementers_noted name parts types [] directed free kept)
+    told name parts recorded.is_disabled (flat_map (implementer name) types) (possible_contents recorded) (implementers_noted name parts types [] directed free kept)

@@ -29,15 +29,6 @@ pub all_made-append : (before : Contents) (xs ys : List Step) → all_made befor
 unfolding all_made
 all_made-append before xs ys = fold-append made before xs ys
 
--- two lists of steps, one after the other
-two_parts : (a b c : Contents) (s t : List Step) → b ≡ all_made a s → c ≡ all_made b t → c ≡ all_made a (s ++ t)
-two_parts a b c s t p q = q ∙ ap (λ z. all_made z t) p ∙ sym (all_made-append a s t)
-
--- and five
-pub five_parts : (a b c d e f : Contents) (s t u v w : List Step) → b ≡ all_made a s → c ≡ all_made b t → d ≡ all_made c u → e ≡ all_made d v → f ≡ all_made e w → f ≡ all_made a (s ++ t ++ u ++ v ++ w)
-five_parts a b c d e f s t u v w p q r x y =
-    two_parts a e f (s ++ t ++ u ++ v) w (two_parts a d e (s ++ t ++ u) v (two_parts a c d (s ++ t) u (two_parts a b c s t p q) r) x) y
-
 -- one step more
 pub one_more : {X : Type 0} (step : X → Step) (before : Contents) (xs : List X) (i : ℕ) (d : X) → i < length xs
     → all_made before (take (i + 1) (map step xs)) ≡ made (all_made before (take i (map step xs))) (step (get_or xs i d))

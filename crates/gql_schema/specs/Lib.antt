@@ -2,3 +2,4 @@ pub mod Recorded
 pub mod Names
 pub mod Views
 pub mod Implementers
+pub mod Builders

@@ -1,6 +1,6 @@
 -- What the builder of a schema has recorded, and the registry that is made of it. Section 3.3 of the GraphQL
 -- specification, October 2021.
-use Rattle.std.specs.Prelude.{Bool, true, false, List, [], ◌++◌, Option, map, flat_map}
+use Rattle.std.specs.Prelude.{Bool, true, false, List, [], Option, map, flat_map}
 use Rattle.std.specs.Option.{option_map_or}
 use Rattle.gql_meta.specs.Parts.{Text, Directive}
 use Rattle.gql_meta.specs.declared.introspection_mode.IntrospectionMode.{IntrospectionMode}
@@ -30,20 +30,11 @@ begun query mutation subscription = record {
 abbrev pub types_in : SchemaParts → List TypeParts
 types_in schema = map (λ entry. entry.1) schema.types
 
--- ---- the registry
+-- ---- additions
 
 abbrev pub mode : Bool → IntrospectionMode
 mode true = Disabled
 mode false = Enabled
-
--- the roots and the mode, and nothing else
-abbrev pub roots_alone : Recorded → Contents
-roots_alone recorded = record empty {
-  query = recorded.schema.query;
-  mutation = recorded.schema.mutation;
-  subscription = recorded.schema.subscription;
-  introspection = mode recorded.is_disabled;
-}
 
 -- a type is there with the interfaces that it implements
 abbrev pub type_step : TypeParts → Step
@@ -62,16 +53,34 @@ abbrev pub telling_steps : Bool → List Step
 telling_steps true = []
 telling_steps false = introspection_steps
 
--- The system's directives and scalars; the types; the added directives, each in the place of one of its name; the
--- possible types of the interfaces; the introspection types, and the fields of the query root.
-abbrev pub schema_steps : Recorded → List Step
-schema_steps recorded =
-    system_steps
-    ++ map type_step (types_in recorded.schema)
-    ++ map directive recorded.directives
-    ++ flat_map possible_steps (types_in recorded.schema)
-    ++ telling_steps recorded.is_disabled
+-- ---- the registry, stage by stage
 
--- what the registry of the schema holds
+-- the roots and the mode, and nothing else
+abbrev pub roots_alone : Recorded → Contents
+roots_alone recorded = record empty {
+  query = recorded.schema.query;
+  mutation = recorded.schema.mutation;
+  subscription = recorded.schema.subscription;
+  introspection = mode recorded.is_disabled;
+}
+
+-- then the directives and scalars that every schema has
+abbrev pub system_contents : Recorded → Contents
+system_contents recorded = all_made (roots_alone recorded) system_steps
+
+-- then the types
+abbrev pub type_contents : Recorded → Contents
+type_contents recorded = all_made (system_contents recorded) (map type_step (types_in recorded.schema))
+
+-- then the added directives, each in the place of one of its name
+abbrev pub directive_contents : Recorded → Contents
+directive_contents recorded = all_made (type_contents recorded) (map directive recorded.directives)
+
+-- then the possible types of the interfaces
+abbrev pub possible_contents : Recorded → Contents
+possible_contents recorded = all_made (directive_contents recorded) (flat_map possible_steps (types_in recorded.schema))
+
+-- At last the introspection types, and the fields of the query root that lead to them. This is what the registry of the
+-- schema holds.
 abbrev pub schema_contents : Recorded → Contents
-schema_contents recorded = all_made (roots_alone recorded) (schema_steps recorded)
+schema_contents recorded = all_made (possible_contents recorded) (telling_steps recorded.is_disabled)

@@ -2,9 +2,9 @@
 
 ghost use Rattle.std.specs.Prelude.{◌≡◌, ◌++◌, ◌∷◌, [], true, false, IfOk, IfErr, OnOk};
 ghost use Rattle.std.specs.Map.{keys_of};
-ghost use Rattle.std.specs.Option.{option_copied};
+ghost use Rattle.std.specs.Option.{option_copied, option_map};
 ghost use Rattle.std.proofs.Props.{props};
-ghost use Rattle.gql_meta.specs.Views.{directive_of};
+ghost use Rattle.gql_meta.specs.Views.{text_of, directive_of};
 ghost use Rattle.gql_types.specs.Types.{with_last};
 ghost use Rattle.gql_meta.specs.Parts.{is_among};
 ghost use Rattle.gql_dynamic.specs.Types.{type_name};
@@ -21,12 +21,13 @@ use crate::schema::Schema;
 use gql_check::{SchemaTypes, check};
 use gql_dynamic::{OutOfMemory, SchemaError, Type};
 use gql_registry::MetaDirective;
+use indexmap::IndexMap;
 use std::alloc::Global;
 
 /// What is recorded for a schema: types, directives, the names of the roots, and whether introspection is disabled.
 #[derive(Drop)]
 pub struct SchemaBuilder {
-    alloc: Global,
+    pub(crate) alloc: Global,
     pub(crate) types: SchemaTypes,
     pub(crate) directives: Vec<MetaDirective>,
     pub(crate) is_disabled: bool,
@@ -34,22 +35,50 @@ pub struct SchemaBuilder {
     ghost different: { HasDifferentNames (schema_parts types) } by { Prim.hlevel props },
 }
 
-/// No types as yet. `_any` is never given, and the condition always holds: with both, the prover takes the function for
-/// every validator that types may hold.
+fn copied(alloc: Global, text: Option<&str>) -> Result<Option<String>, OutOfMemory>
+    ensures { IfOk result (λ copy. option_map text_of copy ≡ option_copied text.entry) }
+{
+    match text {
+        None => Ok(None),
+        Some(text) => Ok(Some(String::from_str(alloc, text)?)),
+    }
+}
+
+/// No types as yet, and roots of these names.
 fn no_types(
     alloc: Global,
     query: &str,
     mutation: Option<&str>,
     subscription: Option<&str>,
-    _any: Option<&Type>,
 ) -> Result<SchemaTypes, OutOfMemory>
-    requires any_validator { true ≡ true }
     ensures { IfOk result (λ types. schema_parts types ≡ (begun query.now (option_copied mutation.entry) (option_copied subscription.entry)).schema) }
 {
-    SchemaTypes::new(alloc, query, mutation, subscription)
+    Ok(SchemaTypes {
+        types: IndexMap::new(alloc),
+        query: String::from_str(alloc, query)?,
+        mutation: copied(alloc, mutation)?,
+        subscription: copied(alloc, subscription)?,
+    })
 }
 
-fn put_type(types: &mut SchemaTypes, ty: Type) -> Result<(), SchemaError>
+/// Puts a type last, under its name.
+fn add_type(alloc: Global, types: &mut SchemaTypes, ty: Type) -> Result<(), SchemaError>
+    ensures added { OnOk result (schema_parts types.new ≡ record (schema_parts types.old) {
+      types = with_last (schema_parts types.old).types (type_name (type_parts ty)) (type_parts ty);
+    }) }
+    ensures new { OnOk result (is_among (type_name (type_parts ty)) (keys_of (schema_parts types.old).types) ≡ false) }
+    ensures exists { IfErr result (TellsExisting (type_name (type_parts ty)) (keys_of (schema_parts types.old).types)) }
+{
+    let name = String::from_str(alloc, ty.name())?;
+    if types.types.contains_key(&name) {
+        return Err(SchemaError::AlreadyExists { name });
+    }
+    types.types.insert(name, ty)?;
+    Ok(())
+}
+
+/// The same, of types that stand under their own names.
+fn put_type(alloc: Global, types: &mut SchemaTypes, ty: Type) -> Result<(), SchemaError>
     requires own { HasOwnNames (schema_parts types.old) }
     requires different { HasDifferentNames (schema_parts types.old) }
     ensures added { OnOk result (schema_parts types.new ≡ record (schema_parts types.old) {
@@ -60,14 +89,7 @@ fn put_type(types: &mut SchemaTypes, ty: Type) -> Result<(), SchemaError>
     ensures new { OnOk result (is_among (type_name (type_parts ty)) (keys_of (schema_parts types.old).types) ≡ false) }
     ensures exists { IfErr result (TellsExisting (type_name (type_parts ty)) (keys_of (schema_parts types.old).types)) }
 {
-    types.register(ty)
-}
-
-fn checked(alloc: Global, types: &SchemaTypes) -> Result<(), SchemaError>
-    requires any_validator { true ≡ true }
-    ensures { Tells result (first_fault (schema_of types.now)) }
-{
-    check(alloc, types)
+    add_type(alloc, types, ty)
 }
 
 impl SchemaBuilder {
@@ -81,7 +103,7 @@ impl SchemaBuilder {
     {
         Ok(SchemaBuilder {
             alloc,
-            types: no_types(alloc, query, mutation, subscription, None)?,
+            types: no_types(alloc, query, mutation, subscription)?,
             directives: Vec::new(alloc),
             is_disabled: false,
         })
@@ -100,7 +122,7 @@ impl SchemaBuilder {
         ensures new { OnOk result (is_among (type_name (type_parts ty)) (keys_of (schema_parts self.types).types) ≡ false) }
         ensures exists { IfErr result (TellsExisting (type_name (type_parts ty)) (keys_of (schema_parts self.types).types)) }
     {
-        put_type(&mut self.types, ty)?;
+        put_type(self.alloc, &mut self.types, ty)?;
         Ok(self)
     }
 
@@ -137,13 +159,8 @@ impl SchemaBuilder {
         ensures rules { Tells result (first_fault (schema_of self.types)) }
         ensures recorded { IfOk result (λ schema. recorded_as schema.types schema.directives schema.is_disabled ≡ recorded_as self.types self.directives self.is_disabled) }
     {
-        checked(self.alloc, &self.types)?;
-        let registry = made_registry(
-            self.alloc,
-            &self.types,
-            self.directives.as_slice(),
-            self.is_disabled,
-        )?;
+        check(self.alloc, &self.types)?;
+        let registry = made_registry(&self)?;
         Ok(Schema {
             types: self.types,
             directives: self.directives,

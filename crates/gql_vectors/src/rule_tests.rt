@@ -214,8 +214,9 @@ const INPUT: Row<'static> = Row::Input("In", &[("a", Named("Int"), false)]);
 
 const NONE: Roots = (None, None);
 
-const KEPT: [Case; 8] = [
+const KEPT: [Case; 9] = [
     (NONE, &[QUERY], ""),
+    ((None, Some("S")), &[QUERY], ""),
     (
         NONE,
         &[

@@ -5,20 +5,25 @@ use Rattle.gql_registry.specs.Additions.{all_made}
 use Rattle.gql_dynamic.specs.Types.{type_name}
 use Rattle.gql_dynamic.specs.Views.{type_parts}
 use Rattle.gql_check.specs.Views.{schema_parts}
-use Rattle.gql_schema.specs.Recorded.{type_step}
-use Rattle.gql_schema.proofs.Keys.{AreFree, free_names, free_after}
+use Rattle.gql_schema.specs.Recorded.{types_in, type_step}
+use Rattle.gql_schema.specs.Names.{HasNoneOf}
+use Rattle.gql_schema.specs.Builders.{recorded_of}
+use Rattle.gql_schema.proofs.Keys.{AreFree, free_names, free_after, none_of_system}
 use Rattle.gql_schema.proofs.Steps.{none_made, first_made, values_viewed}
 use Rattle.gql_schema.proofs.making.add_types.Goals as goal
 
 pub loop-ty-init : goal.loop-ty-init
 loop-ty-init g c =
     let entries = c.types.result.now.entries in
+    let builder = c.args.builder.now in
+    let parts = schema_parts builder.types in
     let others = keys_of (types_of c.args.registry.now) in
+    let new = subst (λ contents. HasNoneOf (keys_of contents.types) parts) (sym c.requires.before) (none_of_system (recorded_of builder) parts c.requires.valid) in
     let all : c.into_iter-ty-iterator.result ≡ entries = search rules in
     record {
       free = subst (λ types. AreFree (map type_name types) others)
           (sym (ap (λ left. map type_parts (values_of left)) all ∙ sym (values_viewed type_parts entries) ∙ ap (map (λ entry. entry.1)) c.types.ensures))
-          (free_names (schema_parts c.args.types.now) others c.requires.own c.requires.different c.requires.new);
+          (free_names parts others builder.own builder.different new);
       all = refl;
     }
 
@@ -50,3 +55,4 @@ returns-clause-added g c =
     ∙ ap (λ left. all_made before (map type_step (map type_parts (values_of left)))) all
     ∙ sym (ap (λ types. all_made before (map type_step types)) (values_viewed type_parts entries))
     ∙ ap (λ types. all_made before (map type_step (map (λ entry. entry.1) types))) c.types.ensures
+    ∙ ap (λ contents. all_made contents (map type_step (types_in (schema_parts c.args.builder.now.types)))) c.requires.before

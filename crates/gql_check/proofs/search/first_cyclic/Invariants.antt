@@ -5,7 +5,7 @@ use Rattle.gql_dynamic.specs.Views.{type_parts}
 use Rattle.gql_check.specs.Definitions.{each_of, definition}
 use Rattle.gql_check.specs.Views.{schema_of}
 use Rattle.gql_check.specs.Counts.{input_count, field_total}
-use Rattle.gql_check.proofs.search.first_input_cycle.Given as goal
+use Rattle.gql_check.proofs.search.first_cyclic.Given as goal
 
 -- what is left has the first cycle of all
 abbrev pub invariant-loop-name : goal.invariant-loop-name
