@@ -1,9 +1,9 @@
 -- The laws of forms, proved once for each way to make a form.
-use Rattle.std.proofs.Common.{◌≡◌, ℕ, zero, suc, ◌+◌, ◌<◌, ◌≤◌, Bool, true, false, cond, List, [], ◌∷◌, ◌++◌, length, Option, Some, None, Result, Ok, Err, refl, sym, ap, subst, ◌∙◌, append_assoc, arith, inl, inr, length-append}
+use Rattle.std.proofs.Common.{◌≡◌, ℕ, zero, suc, ◌<◌, ◌≤◌, Bool, true, false, cond, List, [], ◌∷◌, ◌++◌, length, Option, Some, None, Result, Ok, Err, refl, sym, ap, subst, ◌∙◌, append_assoc, arith, inl, inr, length-append}
 use Rattle.std.specs.Prelude.{not, ◌||◌, ◌&&◌, ◌==◌, ◌⊎◌}
 use Rattle.std.proofs.lemmas.List.{append-nil}
 use Rattle.std.proofs.lemmas.Bool.{eqb-true}
-use Rattle.gql_grammar.specs.Form.{Terminal, Fault, Syntax, Stop, Read, ◌>>=◌, among, apart, starts, Form, one, seq, opt, opt_spells, many_spell, many_from, many_read, many, some, alt, ◌<$>◌, refused, refused_at, declared, limited}
+use Rattle.gql_grammar.specs.Form.{Terminal, Syntax, Stop, Read, ◌>>=◌, among, apart, starts, Form, one, seq, opt, opt_spells, many_spell, many_from, many_read, many, some, alt, ◌<$>◌, refused, refused_at, declared, limited}
 
 pub record Lawful {A : Type 0} (f : Form A) : Type 0 where
   -- only a form that may be empty has an empty spelling, and each other one begins with a first sort

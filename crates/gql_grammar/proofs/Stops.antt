@@ -1,10 +1,10 @@
 -- Where reading stops: at the first token that begins none.
-use Rattle.std.proofs.Common.{◌≡◌, ℕ, zero, suc, ◌+◌, ◌<◌, ◌≤◌, Bool, true, false, cond, List, [], ◌∷◌, ◌++◌, length, Option, Some, None, Result, Ok, Err, refl, sym, ap, subst, ◌∙◌, append_assoc, arith, inl, inr, length-append}
+use Rattle.std.proofs.Common.{◌≡◌, ℕ, zero, suc, ◌<◌, ◌≤◌, Bool, true, false, cond, List, [], ◌∷◌, ◌++◌, length, Option, Some, None, Ok, Err, refl, sym, ap, subst, ◌∙◌, append_assoc, arith, inl, inr, length-append}
 use Rattle.std.specs.Prelude.{not, ◌||◌, ◌&&◌, ◌==◌, ◌⊎◌}
 use Rattle.std.proofs.lemmas.List.{append-nil}
 use Rattle.std.proofs.lemmas.Bool.{eqb-true}
-use Rattle.gql_grammar.specs.Form.{Terminal, is_end, Fault, Syntax, Refused, Stop, Read, ◌>>=◌, among, apart, starts, place, Form, one, one_at, seq, opt, opt_spells, many_spell, many_from, many_read, many, alt, some, declared, limited, refused, refused_at, ◌<$>◌}
-use Rattle.gql_grammar.proofs.Laws.{Lawful, one_lawful, refused_lawful, seq_lawful, opt_lawful, many_lawful, map_lawful, alt_lawful, declared_lawful, limited_lawful, bind_ok, ok_is, shorter, among-append, apart_false, starts-append, many_one, many_fails, front}
+use Rattle.gql_grammar.specs.Form.{Terminal, is_end, Fault, Syntax, Refused, Stop, Read, ◌>>=◌, among, apart, starts, place, Form, one, seq, opt, opt_spells, many_spell, many_from, many_read, many, alt, some, declared, limited, refused, refused_at, ◌<$>◌}
+use Rattle.gql_grammar.proofs.Laws.{Lawful, one_lawful, refused_lawful, seq_lawful, opt_lawful, many_lawful, map_lawful, alt_lawful, declared_lawful, limited_lawful, ok_is, shorter, among-append, apart_false, many_one, many_fails, front}
 
 -- with the next token, these begin no spelling
 abbrev pub Halts : (List Terminal → Type 0) → List Terminal → List Terminal → Type 0

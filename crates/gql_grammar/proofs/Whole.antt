@@ -1,11 +1,11 @@
 -- Whole texts: what is found is spelled, what is spelled is found, and a fault is the first stop.
-use Rattle.std.proofs.Common.{◌≡◌, ℕ, zero, suc, ◌+◌, ◌<◌, ◌≤◌, Bool, true, false, cond, List, [], ◌∷◌, ◌++◌, length, Result, Ok, Err, refl, sym, ap, subst, ◌∙◌, append_assoc, arith, length-append, inl, inr}
-use Rattle.std.specs.Prelude.{not, ◌&&◌, ◌==◌, ◌⊎◌}
+use Rattle.std.proofs.Common.{◌≡◌, ℕ, ◌+◌, ◌<◌, ◌≤◌, Bool, true, false, cond, List, [], ◌∷◌, ◌++◌, length, Result, Ok, Err, refl, sym, ap, subst, ◌∙◌, append_assoc, arith, length-append, inl, inr}
+use Rattle.std.specs.Prelude.{not, ◌==◌, ◌⊎◌}
 use Rattle.std.proofs.lemmas.List.{append-nil}
 use Rattle.std.proofs.lemmas.Bool.{eqb-true}
 use Rattle.gql_grammar.specs.Form.{Terminal, end_of_text, is_end, Fault, Syntax, Refused, Stop, Read, ◌>>=◌, starts, place, Form, only_end, all_read, Stands, StopsAt, IsStop, ArePlaced}
-use Rattle.gql_grammar.proofs.Laws.{Lawful, bind_ok, ok_is}
-use Rattle.gql_grammar.proofs.Stops.{Exact, Meets, Halts, Breaks, no_end, split, both_true, refused_stop}
+use Rattle.gql_grammar.proofs.Laws.{bind_ok}
+use Rattle.gql_grammar.proofs.Stops.{Exact, Meets, Breaks, no_end, split, both_true, refused_stop}
 
 abbrev done : {A : Type 0} → A → Result A Stop
 done a = Ok a

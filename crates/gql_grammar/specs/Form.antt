@@ -2,7 +2,7 @@
 -- form is read with one token of sight. A grammar is a list of forms, one for each of its rules, made of each other by
 -- the combinators below. That they agree is `Exact` of proofs/Stops: what a form reads is what the tokens spell, the only
 -- value that they spell, and a fault stands at the first token with which they begin none.
-use Rattle.std.specs.Prelude.{◌≡◌, ◌≢◌, ◌≤◌, ◌<◌, ℕ, zero, suc, ◌+◌, Bool, true, false, not, ◌||◌, ◌&&◌, if◌then◌else◌, ◌==◌, nat_lt, List, [], ◌∷◌, ◌++◌, length, Option, Some, None, Result, Ok, Err, ◌⊎◌}
+use Rattle.std.specs.Prelude.{◌≡◌, ◌≤◌, ℕ, zero, suc, ◌+◌, Bool, true, false, not, ◌||◌, ◌&&◌, if◌then◌else◌, ◌==◌, nat_lt, List, [], ◌∷◌, ◌++◌, length, Option, Some, None, Result, Ok, Err, ◌⊎◌}
 
 -- a token as a grammar sees it: its sort, its text and its place
 pub record Terminal : Type 0 where

@@ -1,5 +1,5 @@
 -- Levels of a type reference that are read off a text.
-use Rattle.std.proofs.Common.{arith, ◌≡◌, ℕ, zero, suc, ◌≤◌, ◌<◌, ◌+◌, length, List, [], ◌∷◌, ◌++◌, codes, refl, ap, sym, ◌∙◌, length-append}
+use Rattle.std.proofs.Common.{arith, ◌≡◌, ℕ, zero, suc, ◌≤◌, ◌<◌, ◌+◌, length, [], ◌∷◌, ◌++◌, codes, refl, ap, sym, ◌∙◌, length-append}
 use Rattle.std.proofs.lemmas.Grind.{common_steps}
 use Rattle.gql_value.specs.TypeRefs as reference
 use Rattle.gql_value.specs.TypeRefs.{Reference}

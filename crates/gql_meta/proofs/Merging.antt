@@ -1,5 +1,5 @@
 -- Ages that are merged.
-use Rattle.std.proofs.Common.{arith, ◌≡◌, ℤ, pos, negsuc, int_lt, if◌then◌else◌, Bool, true, false, refl, ap, sym, ◌∙◌}
+use Rattle.std.proofs.Common.{arith, ◌≡◌, ℤ, pos, int_lt, if◌then◌else◌, Bool, true, false, refl, ap, sym, ◌∙◌}
 use Rattle.std.specs.Ordering.{int_eq}
 use Rattle.gql_meta.specs.Caching.{no_store, merged_age}
 

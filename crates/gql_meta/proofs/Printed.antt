@@ -1,5 +1,5 @@
 -- Printed type references are read again, level by level.
-use Rattle.std.proofs.Common.{arith, ◌≡◌, ℕ, zero, suc, ◌-◌, Bool, true, false, ◌&&◌, if◌then◌else◌, nat_eq, nat_lt, nat_le, length, slice_index, List, [], ◌∷◌, ◌++◌, codes, refl, ap, sym, subst, ◌∙◌}
+use Rattle.std.proofs.Common.{arith, ◌≡◌, ℕ, ◌-◌, Bool, true, false, ◌&&◌, if◌then◌else◌, nat_eq, nat_lt, nat_le, length, slice_index, List, [], ◌∷◌, ◌++◌, codes, refl, ap, sym, subst, ◌∙◌}
 use Rattle.std.proofs.lemmas.Grind.{common_steps}
 use Rattle.gql_lexer.specs.Bytes.{begins_name, goes_on_name, all_of}
 use Rattle.gql_lexer.specs.Forms.{IsName}
@@ -9,7 +9,7 @@ use Rattle.gql_value.specs.declared.type_ref.TypeRef.{TypeRef, roll-TypeRef}
 use Rattle.gql_value.specs.declared.type_ref.TypeRef.TheFolds.{fold-roll-TypeRef, ind-TypeRef, map-TypeRef}
 use Rattle.gql_value.specs.declared.type_ref.TypeRef.TheOpen.{TypeRef-F}
 use Rattle.gql_meta.specs.Parts.{Text}
-use Rattle.gql_meta.specs.TypeNames.{named, non_null, list_of, outer, first_is, last_is, is_bracketed, exclamation_mark, open_bracket, close_bracket, inner_read, reference_read, whole_reference, reference_text, outer_of, IsPrinted}
+use Rattle.gql_meta.specs.TypeNames.{named, non_null, list_of, outer, first_is, last_is, is_bracketed, exclamation_mark, open_bracket, close_bracket, reference_read, whole_reference, reference_text, outer_of, IsPrinted}
 use Rattle.gql_meta.proofs.Levels.{read_by_level}
 
 -- ---- one level

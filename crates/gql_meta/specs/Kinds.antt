@@ -1,5 +1,5 @@
 -- Kinds of types, and what each kind is and has: section 3.4 of the GraphQL specification, October 2021.
-use Rattle.std.specs.Prelude.{◌≡◌, ℕ, Bool, true, false, ◌&&◌, ◌||◌, not, List, [], Option, Some, None, option_and_then, codes}
+use Rattle.std.specs.Prelude.{ℕ, Bool, true, false, ◌||◌, List, Option, Some, None, option_and_then, codes}
 use Rattle.std.specs.List.{list_any}
 use Rattle.std.specs.Str.{bytes_eq}
 use Rattle.gql_meta.specs.Parts.{Text, Field, Meta, scalar, object, interface, union, enum, input_object, name_of, at_text}

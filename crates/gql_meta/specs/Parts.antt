@@ -1,6 +1,6 @@
 -- The parts of a schema, as plain data: a text is the list of its bytes, and a map is the list of its entries in order.
 -- Sections 3.4 to 3.13 of the GraphQL specification, October 2021.
-use Rattle.std.specs.Prelude.{ℕ, Bool, true, false, List, Option, Some, None}
+use Rattle.std.specs.Prelude.{ℕ, Bool, true, false, List, Option, None}
 use Rattle.std.specs.List.{list_any}
 use Rattle.std.specs.Map.{lookup}
 use Rattle.std.specs.Str.{bytes_eq}

@@ -1,6 +1,6 @@
 -- Type references that are read off their text, one level at a time: section 2.11 of the GraphQL specification,
 -- October 2021. Each text is read, also one that no type reference has.
-use Rattle.std.specs.Prelude.{◌≡◌, ℕ, zero, suc, ◌-◌, Bool, true, false, ◌&&◌, if◌then◌else◌, nat_eq, nat_le, nat_lt, length, take, drop, slice_index, List, [], ◌∷◌, ◌++◌, codes}
+use Rattle.std.specs.Prelude.{◌≡◌, ℕ, zero, suc, ◌-◌, Bool, true, false, ◌&&◌, if◌then◌else◌, nat_eq, nat_le, nat_lt, length, take, drop, slice_index, ◌++◌, codes}
 use Rattle.std.specs.Str.{bytes_eq}
 use Rattle.gql_lexer.specs.Forms.{IsName}
 use Rattle.gql_value.specs.TypeRefs.{Reference, innermost}

@@ -6,7 +6,7 @@ use Rattle.std.specs.declared.vec.Vec.{Vec}
 use Rattle.std.specs.declared.alloc.Global.{Global}
 use Rattle.gql_value.specs.declared.const_value.ConstValue.{ConstValue}
 use Rattle.gql_meta.specs.Parts.{Text, Deprecated, not_deprecated, deprecated_for, Invocation, InputValue, Field, EnumValue, Directive}
-use Rattle.gql_meta.specs.Parts.{ScalarType, ObjectType, InterfaceType, UnionType, EnumType, InputObjectType, Meta, scalar, object, interface, union, enum, input_object}
+use Rattle.gql_meta.specs.Parts.{Meta, scalar, object, interface, union, enum, input_object}
 use Rattle.gql_meta.specs.declared.deprecation.Deprecation.{Deprecation}
 use Rattle.gql_meta.specs.declared.deprecation.Deprecation.TheVariants.{NoDeprecated, Deprecated as deprecated_variant}
 use Rattle.gql_meta.specs.declared.directive_invocation.MetaDirectiveInvocation.{MetaDirectiveInvocation}

@@ -12,7 +12,7 @@ use Rattle.std.specs.declared.alloc.Global.{Global}
 use Rattle.indexmap.specs.IndexMap.{insert_entry, insert_all}
 use Rattle.std.specs.List.{list_any}
 use Rattle.std.specs.Map.{lookup}
-use Rattle.std.proofs.lemmas.Map.Made.{is_some-lookup, keys_of-map_values}
+use Rattle.std.proofs.lemmas.Map.Made.{is_some-lookup}
 use Rattle.indexmap.specs.IndexSet.{insert_key}
 use Rattle.gql_meta.specs.Parts.{Text}
 use Rattle.gql_meta.specs.Views.{text_of, entries_of}

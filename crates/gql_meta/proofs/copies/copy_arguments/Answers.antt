@@ -1,4 +1,4 @@
-use Rattle.std.proofs.Common.{rules, ◌≡◌, List, [], ap₂, ◌∙◌}
+use Rattle.std.proofs.Common.{rules, ◌≡◌, [], ap₂, ◌∙◌}
 use Rattle.std.specs.Str.{bytes_eq}
 use Rattle.indexmap.specs.IndexMap.{insert_all}
 use Rattle.gql_meta.specs.Views.{arguments_of}

@@ -1,4 +1,4 @@
-use Rattle.std.proofs.Common.{◌≡◌, refl, sym, ap, ◌∙◌, map}
+use Rattle.std.proofs.Common.{refl, sym, ap, ◌∙◌, map}
 use Rattle.gql_meta.specs.Views.{text_of}
 use Rattle.gql_types.proofs.Entries.{among_names, names_with-new}
 use Rattle.gql_types.proofs.members.put_new_name.Goals as goal
