@@ -1,21 +1,23 @@
 //! The rules of interfaces.
 
-ghost use Rattle.std.specs.Prelude.{map};
+ghost use Rattle.std.specs.Prelude.{◌≡◌, map, None, OnOk, false};
 ghost use Rattle.gql_meta.specs.Views.{entries_of, text_of};
 ghost use Rattle.gql_parts.specs.Views.{field_parts};
-ghost use Rattle.gql_rules.specs.Tests.{fault_if, first_in, first_of};
+ghost use Rattle.gql_types.specs.Views.{interface_parts};
+ghost use Rattle.gql_dynamic.specs.Types as built;
+ghost use Rattle.gql_rules.specs.Tests.{fault_if, first_in};
 ghost use Rattle.gql_meta.specs.Parts.{is_among};
 ghost use Rattle.gql_rules.specs.Faults.{implements_itself};
-ghost use Rattle.gql_rules.specs.Rules.{interface_field_fault, interface_fault, interface_tests, interface_implements_fault};
+ghost use Rattle.gql_rules.specs.Rules.{declared_fault, interface_field_fault, interface_fault, interface_implements_fault};
 ghost use Rattle.gql_dynamic.specs.Errors.{Tells};
-ghost use Rattle.gql_check.specs.Definitions.{field_of, fields_of};
+ghost use Rattle.gql_check.specs.Definitions.{field_of, fields_of, definition};
 ghost use Rattle.gql_check.specs.Views.{schema_of, definition_of};
 
 use crate::fields;
 use crate::implementation::check_implements;
 use crate::names::{exists, is_among};
 use crate::types::SchemaTypes;
-use gql_dynamic::{InterfaceField, SchemaError, SchemaType};
+use gql_dynamic::{Interface, InterfaceField, SchemaError, SchemaType};
 use gql_meta::MetaTypeId;
 use indexmap::{IndexMap, IndexSet};
 use std::alloc::Global;
@@ -27,35 +29,6 @@ fn check_itself(alloc: Global, ty: &str, implements: &IndexSet<String>) -> Resul
         return Err(SchemaError::ImplementsItself {
             ty: String::from_str(alloc, ty)?,
         });
-    }
-    Ok(())
-}
-
-fn check_field(
-    alloc: Global,
-    types: &SchemaTypes,
-    ty: &str,
-    implements: &IndexSet<String>,
-    name: &str,
-    field: &InterfaceField,
-) -> Result<(), SchemaError>
-    ensures { Tells result (interface_field_fault (schema_of types.now) ty.now (map text_of implements.now.keys) (name.now, field_of (field_parts field.now))) }
-{
-    fields::check_field(alloc, types, ty, name, field)?;
-    check_itself(alloc, ty, implements)
-}
-
-fn check_fields(
-    alloc: Global,
-    types: &SchemaTypes,
-    ty: &str,
-    implements: &IndexSet<String>,
-    fields: &IndexMap<String, InterfaceField>,
-) -> Result<(), SchemaError>
-    ensures { Tells result (first_in (interface_field_fault (schema_of types.now) ty.now (map text_of implements.now.keys)) (fields_of (entries_of field_parts fields.now.entries))) }
-{
-    for (name, field) in fields {
-        check_field(alloc, types, ty, implements, name, field)?;
     }
     Ok(())
 }
@@ -90,17 +63,56 @@ fn check_implementations(
     Ok(())
 }
 
-fn check_interface(
+/// The rules on the interfaces that it declares.
+fn check_declared(
     alloc: Global,
     types: &SchemaTypes,
     ty: &str,
     fields: &IndexMap<String, InterfaceField>,
     implements: &IndexSet<String>,
 ) -> Result<(), SchemaError>
-    ensures { Tells result (first_of (interface_tests (schema_of types.now) ty.now (fields_of (entries_of field_parts fields.now.entries)) (map text_of implements.now.keys))) }
+    ensures { Tells result (declared_fault (schema_of types.now) ty.now (fields_of (entries_of field_parts fields.now.entries)) (map text_of implements.now.keys)) }
 {
-    check_fields(alloc, types, ty, implements, fields)?;
+    check_itself(alloc, ty, implements)?;
     check_implementations(alloc, types, ty, fields, implements)
+}
+
+/// What is asked with a field: its own rules, and then, where it is the first, those on the interfaces that are declared. With
+/// a later field they would find nothing new.
+fn check_field(
+    alloc: Global,
+    types: &SchemaTypes,
+    ty: &str,
+    own: &Interface,
+    name: &str,
+    field: &InterfaceField,
+    is_first: bool,
+) -> Result<(), SchemaError>
+    requires { is_first ≡ false → declared_fault (schema_of types.now) ty.now (fields_of (interface_parts own.now).fields) (interface_parts own.now).implements ≡ None }
+    ensures field { Tells result (interface_field_fault (schema_of types.now) ty.now (fields_of (interface_parts own.now).fields) (interface_parts own.now).implements (name.now, field_of (field_parts field.now))) }
+    ensures declared { OnOk result (declared_fault (schema_of types.now) ty.now (fields_of (interface_parts own.now).fields) (interface_parts own.now).implements ≡ None) }
+{
+    fields::check_field(alloc, types, ty, name, field)?;
+    if is_first {
+        check_declared(alloc, types, ty, own.fields(), own.implements())?;
+    }
+    Ok(())
+}
+
+fn check_interface(
+    alloc: Global,
+    types: &SchemaTypes,
+    ty: &str,
+    own: &Interface,
+) -> Result<(), SchemaError>
+    ensures { Tells result (interface_fault (schema_of types.now) (ty.now, definition (built.interface (interface_parts own.now)))) }
+{
+    let mut is_first = true;
+    for (name, field) in own.fields() {
+        check_field(alloc, types, ty, own, name, field, is_first)?;
+        is_first = false;
+    }
+    Ok(())
 }
 
 fn check_type(
@@ -112,9 +124,7 @@ fn check_type(
     ensures { Tells result (interface_fault (schema_of types.now) (name.now, definition_of ty.now)) }
 {
     match ty {
-        SchemaType::Interface(own) => {
-            check_interface(alloc, types, name, own.fields(), own.implements())
-        }
+        SchemaType::Interface(own) => check_interface(alloc, types, name, own),
         _ => Ok(()),
     }
 }

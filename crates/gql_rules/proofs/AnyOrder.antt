@@ -13,7 +13,7 @@ use Rattle.gql_rules.specs.Faults.{Fault, input_cycle, query_root, mutation_root
 use Rattle.gql_rules.specs.InputCycles.{needs, needed_by, input_fields_of, reaches, Reaches, directly, through}
 use Rattle.gql_rules.specs.Rules.{first_fault, schema_tests, name_fault, name_missing, input_missing, field_missing, type_missing, root_missing, existence_fault, field_missing_tests, object_missing_tests, existence_tests, root_fault, optional_root_fault, root_tests, roots_fault}
 use Rattle.gql_rules.specs.Rules.{argument_tests, argument_fault, field_tests, field_fault, name_fits, fits, Implementation, argument_implemented, own_field_tests, own_field_implemented, field_implemented, implements_fault, has_entity, is_empty, object_tests, object_fault}
-use Rattle.gql_rules.specs.Rules.{input_field_tests, input_field_fault, input_tests, input_fault, interface_implements_fault, interface_field_tests, interface_field_fault, interface_tests, interface_fault, member_fault, union_fault}
+use Rattle.gql_rules.specs.Rules.{input_field_tests, input_field_fault, input_tests, input_fault, interface_implements_fault, declared_tests, declared_fault, interface_field_tests, interface_field_fault, interface_fault, member_fault, union_fault}
 use Rattle.gql_rules.specs.Order.{Equal, SameByName, AreBoth, SameDefinition, SameField, SameSchema, scalars, objects, interfaces, unions, enums, input_objects, subscriptions, uploads}
 use Rattle.gql_rules.proofs.Reaching.{reaches-decides}
 use Rattle.gql_rules.proofs.Soundness.{StaysSound, first_of-sound, test-sound, first_in-sound, each_name-sound, found_or-sound, is_some-same, passes-same, list_any-same, is_empty-same, bool-same}
@@ -280,15 +280,20 @@ module _ (s t : Schema) (a : SameSchema s t) where
       chosen true x y k = k
       chosen false x y k = λ h. h
 
-  interface_field-sound : (ty : Text) (i : List Text) (n : Text) (f g : Field) → SameField f g → StaysSound (interface_field_fault s ty i (n, f)) (interface_field_fault t ty i (n, g))
-  interface_field-sound ty i n f g same = first_of-sound (interface_field_tests s ty i (n, f)) (interface_field_tests t ty i (n, g)) (field-sound ty n f g same, (λ h. h, tt))
+  declared-sound : (ty : Text) (fs gs : List (Text × Field)) → SameByName SameField fs gs → (i : List Text) → StaysSound (declared_fault s ty fs i) (declared_fault t ty gs i)
+  declared-sound ty fs gs same i = first_of-sound (declared_tests s ty fs i) (declared_tests t ty gs i) (
+    (λ h. h),
+    (each_name-sound (interface_implements_fault s ty fs) (interface_implements_fault t ty gs) i (interface_implements-sound ty fs gs same), tt),
+  )
+
+  interface_field-sound : (ty : Text) (fs gs : List (Text × Field)) → SameByName SameField fs gs → (i : List Text) (n : Text) (f g : Field) → SameField f g
+      → StaysSound (interface_field_fault s ty fs i (n, f)) (interface_field_fault t ty gs i (n, g))
+  interface_field-sound ty fs gs sames i n f g same =
+      first_of-sound (interface_field_tests s ty fs i (n, f)) (interface_field_tests t ty gs i (n, g)) (field-sound ty n f g same, (declared-sound ty fs gs sames i, tt))
 
   interface-sound : (n : Text) (d e : Definition) → SameDefinition d e → StaysSound (interface_fault s (n, d)) (interface_fault t (n, e))
   interface-sound n _ _ (interfaces f g i same) =
-      first_of-sound (interface_tests s n f i) (interface_tests t n g i) (
-        first_in-sound SameField (interface_field_fault s n i) (interface_field_fault t n i) f g same (interface_field-sound n i),
-        (each_name-sound (interface_implements_fault s n f) (interface_implements_fault t n g) i (interface_implements-sound n f g same), tt),
-      )
+      first_in-sound SameField (interface_field_fault s n f i) (interface_field_fault t n g i) f g same (interface_field-sound n f g same i)
   interface-sound n _ _ scalars = λ h. h
   interface-sound n _ _ (objects f g i e same) = λ h. h
   interface-sound n _ _ (unions m) = λ h. h

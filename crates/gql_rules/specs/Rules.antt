@@ -202,23 +202,27 @@ first_cycle s types = first_in (λ type. fault_if (is_input_object type.1 && rea
 abbrev pub interface_implements_fault : Schema → (ty : Text) → List (Text × Field) → Text → Option Fault
 interface_implements_fault s ty fields name = cond (exists s name) (implements_fault s kind.Interface ty fields name) None
 
--- Whether it implements itself is asked with each field: so the rules of the first field come before it, and an interface
--- without fields is not asked.
-abbrev pub interface_field_tests : Schema → (ty : Text) → (implements : List Text) → Text × Field → List (Option Fault)
-interface_field_tests s ty implements field =
-    field_fault s ty field ∷
-    fault_if (is_among ty implements) (implements_itself ty) ∷ []
-
-abbrev pub interface_field_fault : Schema → (ty : Text) → (implements : List Text) → Text × Field → Option Fault
-interface_field_fault s ty implements field = first_of (interface_field_tests s ty implements field)
-
-abbrev pub interface_tests : Schema → (ty : Text) → List (Text × Field) → (implements : List Text) → List (Option Fault)
-interface_tests s ty fields implements =
-    first_in (interface_field_fault s ty implements) fields ∷
+-- the rules on the interfaces that it declares
+abbrev pub declared_tests : Schema → (ty : Text) → List (Text × Field) → (implements : List Text) → List (Option Fault)
+declared_tests s ty fields implements =
+    fault_if (is_among ty implements) (implements_itself ty) ∷
     first_in (interface_implements_fault s ty fields) implements ∷ []
 
+abbrev pub declared_fault : Schema → (ty : Text) → List (Text × Field) → (implements : List Text) → Option Fault
+declared_fault s ty fields implements = first_of (declared_tests s ty fields implements)
+
+-- They are asked with each field, behind its own rules: so they come between the rules of the first field and those of the
+-- second, and an interface without fields is asked nothing.
+abbrev pub interface_field_tests : Schema → (ty : Text) → List (Text × Field) → (implements : List Text) → Text × Field → List (Option Fault)
+interface_field_tests s ty fields implements field =
+    field_fault s ty field ∷
+    declared_fault s ty fields implements ∷ []
+
+abbrev pub interface_field_fault : Schema → (ty : Text) → List (Text × Field) → (implements : List Text) → Text × Field → Option Fault
+interface_field_fault s ty fields implements field = first_of (interface_field_tests s ty fields implements field)
+
 abbrev pub interface_fault : Schema → Text × Definition → Option Fault
-interface_fault s (ty, interface fields implements) = first_of (interface_tests s ty fields implements)
+interface_fault s (ty, interface fields implements) = first_in (interface_field_fault s ty fields implements) fields
 interface_fault s _ = None
 
 -- ---- group 6, unions: section 3.8

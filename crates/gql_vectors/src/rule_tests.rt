@@ -555,7 +555,7 @@ fn input_objects_keep_their_rules(rt: HostRuntime) {
     hold(&rt, rt.alloc(), &INPUTS);
 }
 
-const INTERFACES: [Case; 4] = [
+const INTERFACES: [Case; 7] = [
     (
         NONE,
         &[
@@ -575,6 +575,27 @@ const INTERFACES: [Case; 4] = [
         "Type \"Int\" is not interface",
     ),
     (NONE, &[QUERY, Row::Interface("I", &[V], &["X"])], ""),
+    (
+        NONE,
+        &[QUERY, Row::Interface("I", &[], &["E"]), Row::Enum("E")],
+        "",
+    ),
+    (
+        NONE,
+        &[
+            QUERY,
+            Row::Interface("I", &[V, ("__w", Named("Int"), &[])], &["I"]),
+        ],
+        "Interface \"I\" may not implement itself",
+    ),
+    (
+        NONE,
+        &[
+            QUERY,
+            Row::Interface("I", &[V, ("__w", Named("Int"), &[])], &["Int"]),
+        ],
+        "Type \"Int\" is not interface",
+    ),
 ];
 
 #[test]
