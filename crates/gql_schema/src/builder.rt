@@ -1,20 +1,18 @@
 //! Building a schema: section 3.3 of the GraphQL specification, October 2021.
 
-ghost use Rattle.std.specs.Prelude.{◌≡◌, ◌++◌, ◌∷◌, [], true, false, IfOk, IfErr, OnOk};
+ghost use Rattle.std.specs.Prelude.{◌≡◌, [], false, IfOk, IfErr, OnOk};
 ghost use Rattle.std.specs.Map.{keys_of};
 ghost use Rattle.std.specs.Option.{option_copied, option_map};
 ghost use Rattle.std.proofs.Props.{props};
-ghost use Rattle.gql_meta.specs.Views.{text_of, directive_of};
+ghost use Rattle.gql_meta.specs.Views.{text_of};
 ghost use Rattle.gql_types.specs.Types.{with_last};
 ghost use Rattle.gql_meta.specs.Parts.{is_among};
 ghost use Rattle.gql_dynamic.specs.Types.{type_name};
 ghost use Rattle.gql_dynamic.specs.Views.{type_parts};
-ghost use Rattle.gql_dynamic.specs.Errors.{Tells, TellsExisting};
-ghost use Rattle.gql_rules.specs.Rules.{first_fault};
-ghost use Rattle.gql_check.specs.Views.{schema_parts, schema_of};
+ghost use Rattle.gql_dynamic.specs.Errors.{TellsExisting};
+ghost use Rattle.gql_check.specs.Views.{schema_parts};
 ghost use Rattle.gql_schema.specs.Recorded.{begun};
 ghost use Rattle.gql_schema.specs.Names.{HasOwnNames, HasDifferentNames};
-ghost use Rattle.gql_schema.specs.Views.{recorded_as};
 
 use crate::making::made_registry;
 use crate::schema::Schema;
@@ -93,13 +91,28 @@ fn put_type(alloc: Global, types: &mut SchemaTypes, ty: Type) -> Result<(), Sche
 }
 
 impl SchemaBuilder {
+    ghost use Rattle.std.specs.Prelude.{◌≡◌, ◌++◌, ◌∷◌, [], true, false, IfOk, IfErr, OnOk};
+    ghost use Rattle.std.specs.Map.{keys_of};
+    ghost use Rattle.std.specs.Option.{option_copied};
+    ghost use Rattle.gql_meta.specs.Parts.{is_among};
+    ghost use Rattle.gql_meta.specs.Views.{directive_of};
+    ghost use Rattle.gql_types.specs.Types.{with_last};
+    ghost use Rattle.gql_dynamic.specs.Types.{type_name};
+    ghost use Rattle.gql_dynamic.specs.Views.{type_parts};
+    ghost use Rattle.gql_dynamic.specs.Errors.{Tells, TellsExisting};
+    ghost use Rattle.gql_rules.specs.Rules.{first_fault};
+    ghost use Rattle.gql_check.specs.Definitions.{schema};
+    ghost use Rattle.gql_check.specs.Views.{schema_parts};
+    ghost use Rattle.gql_schema.specs.Recorded.{begun};
+    ghost use Rattle.gql_schema.specs.Builders.{recorded_of, recorded_in};
+
     pub(crate) fn new(
         alloc: Global,
         query: &str,
         mutation: Option<&str>,
         subscription: Option<&str>,
     ) -> Result<SchemaBuilder, OutOfMemory>
-        ensures { IfOk result (λ builder. recorded_as builder.types builder.directives builder.is_disabled ≡ begun query.now (option_copied mutation.entry) (option_copied subscription.entry)) }
+        ensures { IfOk result (λ builder. recorded_of builder ≡ begun query.now (option_copied mutation.entry) (option_copied subscription.entry)) }
     {
         Ok(SchemaBuilder {
             alloc,
@@ -113,14 +126,13 @@ impl SchemaBuilder {
     ///
     /// Answers `AlreadyExists` exactly where a type of its name is registered.
     pub fn register(mut self, ty: Type) -> Result<SchemaBuilder, SchemaError>
-        ensures added { IfOk result (λ builder. recorded_as builder.types builder.directives builder.is_disabled
-            ≡ record (recorded_as self.types self.directives self.is_disabled) {
-              schema = record (schema_parts self.types) {
-                types = with_last (schema_parts self.types).types (type_name (type_parts ty)) (type_parts ty);
-              };
-            }) }
-        ensures new { OnOk result (is_among (type_name (type_parts ty)) (keys_of (schema_parts self.types).types) ≡ false) }
-        ensures exists { IfErr result (TellsExisting (type_name (type_parts ty)) (keys_of (schema_parts self.types).types)) }
+        ensures added { IfOk result (λ builder. recorded_of builder ≡ record (recorded_of self) {
+          schema = record (recorded_of self).schema {
+            types = with_last (recorded_of self).schema.types (type_name (type_parts ty)) (type_parts ty);
+          };
+        }) }
+        ensures new { OnOk result (is_among (type_name (type_parts ty)) (keys_of (recorded_of self).schema.types) ≡ false) }
+        ensures exists { IfErr result (TellsExisting (type_name (type_parts ty)) (keys_of (recorded_of self).schema.types)) }
     {
         put_type(self.alloc, &mut self.types, ty)?;
         Ok(self)
@@ -129,10 +141,8 @@ impl SchemaBuilder {
     /// Adds the definition of a directive: the last one of a name counts, and one of the name of a system directive takes
     /// its place.
     pub fn directive(mut self, directive: MetaDirective) -> Result<SchemaBuilder, OutOfMemory>
-        ensures { IfOk result (λ builder. recorded_as builder.types builder.directives builder.is_disabled
-            ≡ record (recorded_as self.types self.directives self.is_disabled) {
-              directives = (recorded_as self.types self.directives self.is_disabled).directives ++ directive_of directive ∷ [];
-            }) }
+        ensures { IfOk result (λ builder. recorded_of builder
+            ≡ record (recorded_of self) { directives = (recorded_of self).directives ++ directive_of directive ∷ [] }) }
     {
         self.directives.push(directive)?;
         Ok(self)
@@ -140,8 +150,7 @@ impl SchemaBuilder {
 
     /// The schema does not tell about itself.
     pub fn disable_introspection(mut self) -> SchemaBuilder
-        ensures { recorded_as result.types result.directives result.is_disabled
-            ≡ record (recorded_as self.types self.directives self.is_disabled) { is_disabled = true } }
+        ensures { recorded_of result ≡ record (recorded_of self) { is_disabled = true } }
     {
         self.is_disabled = true;
         self
@@ -149,15 +158,15 @@ impl SchemaBuilder {
 
     /// The types that are registered, and the names of the roots.
     pub fn types(&self) -> &SchemaTypes
-        ensures { result.now ≡ self.now.types }
+        ensures { schema_parts result.now ≡ (recorded_of self.now).schema }
     {
         &self.types
     }
 
     /// The schema, where it keeps all rules; else the first rule that it breaks.
     pub fn finish(self) -> Result<Schema, SchemaError>
-        ensures rules { Tells result (first_fault (schema_of self.types)) }
-        ensures recorded { IfOk result (λ schema. recorded_as schema.types schema.directives schema.is_disabled ≡ recorded_as self.types self.directives self.is_disabled) }
+        ensures rules { Tells result (first_fault (schema (recorded_of self).schema)) }
+        ensures recorded { IfOk result (λ built. recorded_in built ≡ recorded_of self) }
     {
         check(self.alloc, &self.types)?;
         let registry = made_registry(&self)?;

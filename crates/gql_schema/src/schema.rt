@@ -1,16 +1,14 @@
 //! Schemas that keep the rules: section 3.3 of the GraphQL specification, October 2021.
 
-ghost use Rattle.std.specs.Prelude.{◌≡◌, None, IfOk};
-ghost use Rattle.std.specs.Option.{option_copied};
+ghost use Rattle.std.specs.Prelude.{◌≡◌, None};
 ghost use Rattle.std.specs.Coded.{codes};
 ghost use Rattle.std.proofs.Props.{props};
 ghost use Rattle.gql_value.specs.contracts.const_value.ConstValue as const_value;
 ghost use Rattle.gql_registry.specs.Registry.{registry_of};
 ghost use Rattle.gql_rules.specs.Rules.{first_fault};
 ghost use Rattle.gql_check.specs.Views.{schema_parts, schema_of};
-ghost use Rattle.gql_schema.specs.Recorded.{begun, schema_contents};
+ghost use Rattle.gql_schema.specs.Recorded.{schema_contents};
 ghost use Rattle.gql_schema.specs.Names.{HasOwnNames, HasDifferentNames};
-ghost use Rattle.gql_schema.specs.Implementers.{KnowsImplementers};
 ghost use Rattle.gql_schema.specs.Views.{recorded_as};
 
 use crate::builder::SchemaBuilder;
@@ -34,6 +32,15 @@ pub struct Schema {
 }
 
 impl Schema {
+    ghost use Rattle.std.specs.Prelude.{◌≡◌, None, IfOk};
+    ghost use Rattle.std.specs.Option.{option_copied};
+    ghost use Rattle.gql_registry.specs.Registry.{registry_of};
+    ghost use Rattle.gql_rules.specs.Rules.{first_fault};
+    ghost use Rattle.gql_check.specs.Views.{schema_parts, schema_of};
+    ghost use Rattle.gql_schema.specs.Recorded.{begun, schema_contents};
+    ghost use Rattle.gql_schema.specs.Implementers.{KnowsImplementers};
+    ghost use Rattle.gql_schema.specs.Builders.{recorded_of, recorded_in};
+
     /// A builder of a schema with roots of these names.
     pub fn build(
         alloc: Global,
@@ -41,14 +48,14 @@ impl Schema {
         mutation: Option<&str>,
         subscription: Option<&str>,
     ) -> Result<SchemaBuilder, OutOfMemory>
-        ensures { IfOk result (λ builder. recorded_as builder.types builder.directives builder.is_disabled ≡ begun query.now (option_copied mutation.entry) (option_copied subscription.entry)) }
+        ensures { IfOk result (λ builder. recorded_of builder ≡ begun query.now (option_copied mutation.entry) (option_copied subscription.entry)) }
     {
         SchemaBuilder::new(alloc, query, mutation, subscription)
     }
 
     /// The registered types, and the names of the roots. They break no rule.
     pub fn types(&self) -> &SchemaTypes
-        ensures is { result.now ≡ self.now.types }
+        ensures recorded { schema_parts result.now ≡ (recorded_in self.now).schema }
         ensures valid { first_fault (schema_of result.now) ≡ None }
     {
         &self.types
@@ -57,16 +64,16 @@ impl Schema {
     /// The registry that is made of the types, the added directives, and whether introspection was disabled. The possible
     /// types of an interface are the objects that implement it, in the order of registration.
     pub fn registry(&self) -> &Registry
-        ensures implementers { KnowsImplementers (schema_parts self.now.types) (registry_of result.now) }
-        ensures made { registry_of result.now ≡ schema_contents (recorded_as self.now.types self.now.directives self.now.is_disabled) }
+        ensures implementers { KnowsImplementers (recorded_in self.now).schema (registry_of result.now) }
+        ensures made { registry_of result.now ≡ schema_contents (recorded_in self.now) }
     {
         &self.registry
     }
 
     /// The same registry, for the caller.
     pub fn into_registry(self) -> Registry
-        ensures implementers { KnowsImplementers (schema_parts self.types) (registry_of result) }
-        ensures made { registry_of result ≡ schema_contents (recorded_as self.types self.directives self.is_disabled) }
+        ensures implementers { KnowsImplementers (recorded_in self).schema (registry_of result) }
+        ensures made { registry_of result ≡ schema_contents (recorded_in self) }
     {
         self.registry
     }
