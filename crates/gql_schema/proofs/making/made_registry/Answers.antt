@@ -4,3 +4,6 @@ use Rattle.gql_schema.proofs.making.made_registry.Goals as goal
 
 pub add_types-requires-clause-before : goal.add_types-requires-clause-before
 add_types-requires-clause-before g c = c.in_ok-add_system_types.ensures.made ∙ ap (λ contents. all_made contents system_steps) c.in_ok-set_roots.ensures
+
+pub returns-clause-contents : goal.returns-clause-contents
+returns-clause-contents g c = c.in_ok-add_introspection.ensures
