@@ -13,37 +13,25 @@ use gql_dynamic::{Interface, SchemaType};
 pub(crate) fn is_object(ty: &SchemaType) -> bool
     ensures { result ≡ is_object (definition_of ty.now) }
 {
-    match ty {
-        SchemaType::Object(_) => true,
-        _ => false,
-    }
+    matches!(ty, SchemaType::Object(_))
 }
 
 pub(crate) fn is_interface(ty: &SchemaType) -> bool
     ensures { result ≡ is_interface (definition_of ty.now) }
 {
-    match ty {
-        SchemaType::Interface(_) => true,
-        _ => false,
-    }
+    matches!(ty, SchemaType::Interface(_))
 }
 
 pub(crate) fn is_input_object(ty: &SchemaType) -> bool
     ensures { result ≡ is_input_object (definition_of ty.now) }
 {
-    match ty {
-        SchemaType::InputObject(_) => true,
-        _ => false,
-    }
+    matches!(ty, SchemaType::InputObject(_))
 }
 
 pub(crate) fn is_subscription(ty: &SchemaType) -> bool
     ensures { result ≡ is_subscription (definition_of ty.now) }
 {
-    match ty {
-        SchemaType::Subscription(_) => true,
-        _ => false,
-    }
+    matches!(ty, SchemaType::Subscription(_))
 }
 
 /// Whether it is an object with a key.

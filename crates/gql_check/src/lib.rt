@@ -10,7 +10,6 @@ mod interfaces;
 mod kinds;
 mod names;
 mod objects;
-mod optional;
 mod roots;
 mod rules;
 mod search;

@@ -7,7 +7,6 @@ ghost use Rattle.gql_meta.specs.Views.{entries_of};
 ghost use Rattle.gql_dynamic.specs.Views.{type_parts};
 ghost use Rattle.gql_check.specs.Views.{schema_parts, schema_of, definition_of};
 
-use crate::optional::lent;
 use gql_dynamic::Type;
 use indexmap::IndexMap;
 
@@ -25,6 +24,7 @@ pub struct SchemaTypes {
 }
 
 impl SchemaTypes {
+    /// The types, each under its name and in the order of registration.
     pub fn types(&self) -> &IndexMap<String, Type>
         ensures { entries_of type_parts result.now.entries ≡ (schema_parts self.now).types }
     {
@@ -42,14 +42,14 @@ impl SchemaTypes {
     pub fn mutation(&self) -> Option<&str>
         ensures { option_copied result ≡ (schema_parts self.now).mutation }
     {
-        lent(&self.mutation)
+        self.mutation.as_deref()
     }
 
     /// The name of the root of subscriptions, where there is one.
     pub fn subscription(&self) -> Option<&str>
         ensures { option_copied result ≡ (schema_parts self.now).subscription }
     {
-        lent(&self.subscription)
+        self.subscription.as_deref()
     }
 
     /// The type that is registered under a name.

@@ -1,6 +1,6 @@
 //! Types of a schema, and their registration: section 3.4 of the GraphQL specification, October 2021.
 
-ghost use Rattle.std.specs.Prelude.{◌≡◌, false, IfErr, OnOk, OnErr};
+ghost use Rattle.std.specs.Prelude.{◌≡◌, false, IfErr, OnOk, OnErr, length, suc};
 ghost use Rattle.std.specs.Map.{keys_of};
 ghost use Rattle.std.specs.Option.{option_map};
 ghost use Rattle.gql_meta.specs.Parts.{is_among};
@@ -35,6 +35,7 @@ pub enum SchemaType {
 pub type Type = SchemaType;
 
 impl SchemaType {
+    /// The name of the type; that of uploads is `Upload`.
     pub fn name(&self) -> &str
         ensures { result.now ≡ type_name (type_parts self.now) }
     {
@@ -50,6 +51,7 @@ impl SchemaType {
         }
     }
 
+    /// It, where it is an object.
     pub fn as_object(&self) -> Option<&Object>
         ensures { option_map (λ ty. object_parts ty.now) result ≡ object_of (type_parts self.now) }
     {
@@ -59,6 +61,7 @@ impl SchemaType {
         }
     }
 
+    /// It, where it is an interface.
     pub fn as_interface(&self) -> Option<&Interface>
         ensures { option_map (λ ty. interface_parts ty.now) result ≡ interface_of (type_parts self.now) }
     {
@@ -68,6 +71,7 @@ impl SchemaType {
         }
     }
 
+    /// It, where it is an input object.
     pub fn as_input_object(&self) -> Option<&InputObject>
         ensures { option_map (λ ty. input_object_parts ty.now) result ≡ input_object_of (type_parts self.now) }
     {
@@ -77,6 +81,7 @@ impl SchemaType {
         }
     }
 
+    /// It, where it is a subscription root.
     pub fn as_subscription(&self) -> Option<&Subscription>
         ensures { option_map (λ ty. subscription_parts ty.now) result ≡ subscription_of (type_parts self.now) }
     {
@@ -118,7 +123,8 @@ impl SchemaType {
         }
     }
 
-    /// Registers it with the interfaces that it implements, in order: all of that, or nothing.
+    /// Registers it with the interfaces that it implements, in order: all of that, or nothing. The registry then has exactly
+    /// one type more.
     ///
     /// Answers `AlreadyExists` where the registry has a type of its name.
     pub fn register(&self, registry: &mut Registry) -> Result<(), SchemaError>
@@ -126,6 +132,7 @@ impl SchemaType {
           types = with_type (types_of registry.old) (type_meta (type_parts self.now));
           implements = with_all_implements (type_name (type_parts self.now)) (registry_of registry.old).implements (interfaces (type_parts self.now));
         }) }
+        ensures one_more { OnOk result (length (types_of registry.new) ≡ suc (length (types_of registry.old))) }
         ensures new { OnOk result (is_among (type_name (type_parts self.now)) (keys_of (types_of registry.old)) ≡ false) }
         ensures exists { IfErr result (TellsExisting (type_name (type_parts self.now)) (keys_of (types_of registry.old))) }
         ensures refused { OnErr result (registry_of registry.new ≡ registry_of registry.old) }
@@ -139,14 +146,15 @@ impl SchemaType {
         Ok(())
     }
 
-    /// Adds it, with the interfaces that it implements, to a registry that has no type of its name: all of that, or
-    /// nothing.
+    /// Adds it, with the interfaces that it implements, to a registry that has no type of its name, and so has one type
+    /// more behind it: all of that, or nothing.
     fn add_new(&self, registry: &mut Registry) -> Result<(), OutOfMemory>
         requires { is_among (type_name (type_parts self.now)) (keys_of (types_of registry.old)) ≡ false }
         ensures added { OnOk result (registry_of registry.new ≡ record (registry_of registry.old) {
           types = with_type (types_of registry.old) (type_meta (type_parts self.now));
           implements = with_all_implements (type_name (type_parts self.now)) (registry_of registry.old).implements (interfaces (type_parts self.now));
         }) }
+        ensures one_more { OnOk result (length (types_of registry.new) ≡ suc (length (types_of registry.old))) }
         ensures refused { OnErr result (registry_of registry.new ≡ registry_of registry.old) }
     {
         let alloc = registry.allocator();

@@ -49,3 +49,7 @@ pub distinct_texts : {V W : Type 0} (f : V → W) (es : List (String Global × V
 unfolding IsDistinct
 distinct_texts f [] h = h
 distinct_texts f (e ∷ es) h = (all-texts f (text_of e.0) es h.0, distinct_texts f es h.1)
+
+-- entries with distinct keys, inserted into none, over what they stand for
+pub insert_all-distinct : {V W : Type 0} (f : V → W) (es : List (String Global × V)) → IsDistinct string_eq (keys_of es) → insert_all bytes_eq [] (entries_of f es) ≡ entries_of f es
+insert_all-distinct f es distinct = inserted_anew (entries_of f es) (distinct_texts f es distinct)

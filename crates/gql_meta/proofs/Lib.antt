@@ -1,4 +1,5 @@
 pub mod Alike
+pub mod Names
 pub mod Entries
 pub mod Distinct
 pub mod Merging

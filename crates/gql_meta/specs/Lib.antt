@@ -5,3 +5,4 @@ pub mod Locations
 pub mod Kinds
 pub mod Invocations
 pub mod TypeNames
+pub mod Validators

@@ -27,6 +27,7 @@ impl MetaType {
         }
     }
 
+    /// The name of the type.
     pub fn name(&self) -> &str
         ensures { result.now ≡ name_of (meta_of self.now) }
     {
@@ -83,51 +84,39 @@ impl MetaType {
     pub fn is_composite(&self) -> bool
         ensures { result ≡ is_composite (kind_of (meta_of self.now)) }
     {
-        match self {
-            MetaType::Object { .. } => true,
-            MetaType::Interface { .. } => true,
-            MetaType::Union { .. } => true,
-            _ => false,
-        }
+        matches!(
+            self,
+            MetaType::Object { .. } | MetaType::Interface { .. } | MetaType::Union { .. }
+        )
     }
 
     /// True for interfaces and unions.
     pub fn is_abstract(&self) -> bool
         ensures { result ≡ is_abstract (kind_of (meta_of self.now)) }
     {
-        match self {
-            MetaType::Interface { .. } => true,
-            MetaType::Union { .. } => true,
-            _ => false,
-        }
+        matches!(self, MetaType::Interface { .. } | MetaType::Union { .. })
     }
 
     /// True for scalars and enums.
     pub fn is_leaf(&self) -> bool
         ensures { result ≡ is_leaf (kind_of (meta_of self.now)) }
     {
-        match self {
-            MetaType::Scalar { .. } => true,
-            MetaType::Enum { .. } => true,
-            _ => false,
-        }
+        matches!(self, MetaType::Scalar { .. } | MetaType::Enum { .. })
     }
 
     /// True for scalars, enums and input objects: section 3.4.2.
     pub fn is_input(&self) -> bool
         ensures { result ≡ is_input (kind_of (meta_of self.now)) }
     {
-        match self {
-            MetaType::Scalar { .. } => true,
-            MetaType::Enum { .. } => true,
-            MetaType::InputObject { .. } => true,
-            _ => false,
-        }
+        matches!(
+            self,
+            MetaType::Scalar { .. } | MetaType::Enum { .. } | MetaType::InputObject { .. }
+        )
     }
 
     /// Whether an object of this name is a value of the type: it is among the possible types of an interface or a union,
     /// or it is the object itself. No type of another kind has such values.
-    #[tactic(auto, using(crate::proofs::Entries::names_have_text))]
+    #[tactic(auto, using(crate::proofs::Names::names_have_text))]
     pub fn is_possible_type(&self, type_name: &str) -> bool
         ensures { result ≡ is_possible_type type_name.now (meta_of self.now) }
     {

@@ -1,8 +1,5 @@
 //! The test of the values of a scalar.
 
-ghost use Rattle.std.specs.Prelude.{◌≡◌};
-ghost use Rattle.std.specs.Fn.{FnReturnsAt};
-
 use gql_value::ConstValue;
 
 type Test = fn(&ConstValue) -> bool;
@@ -15,17 +12,21 @@ pub struct ScalarValidator {
 }
 
 impl ScalarValidator {
+    ghost use Rattle.std.specs.Prelude.{◌≡◌};
+    ghost use Rattle.std.specs.Fn.{FnReturnsAt};
+    ghost use Rattle.gql_meta.specs.Validators.{asked};
+
     /// The validator that asks the function, which may be called on every value.
     pub fn new(f: fn(&ConstValue) -> bool) -> ScalarValidator
         requires { IsAlwaysCallable f }
-        ensures { result.accepts ≡ f }
+        ensures { asked result ≡ f }
     {
         ScalarValidator { accepts: f }
     }
 
     /// What the function that `new` got answers.
     pub fn check(&self, value: &ConstValue) -> bool
-        ensures { FnReturnsAt Test.Fn self.now.accepts value.now result }
+        ensures { FnReturnsAt Test.Fn (asked self.now) value.now result }
     {
         (self.accepts)(value)
     }

@@ -29,7 +29,7 @@ impl Directive {
     }
 
     /// Gives an argument. One of that name is replaced at its place, and a new one goes last.
-    #[tactic(auto, using(crate::proofs::Entries::entries_with_entry))]
+    #[tactic(auto, using(gql_meta::proofs::Entries::entries_with_insertion))]
     pub fn argument(mut self, name: &str, value: ConstValue) -> Result<Directive, OutOfMemory>
         ensures { IfOk result (λ directive. directive_use directive
             ≡ record (directive_use self) { args = with_entry (directive_use self).args name.now value }) }

@@ -86,6 +86,7 @@ impl EnumItem {
         Ok(self)
     }
 
+    /// The name of the value.
     pub fn name(&self) -> &str
         ensures { result.now ≡ (enum_item_parts self.now).name }
     {

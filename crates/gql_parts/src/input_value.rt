@@ -103,12 +103,14 @@ impl InputValue {
         Ok(self)
     }
 
+    /// The name of the argument or of the input field.
     pub fn name(&self) -> &str
         ensures { result.now ≡ (input_value_parts self.now).name }
     {
         self.name.as_str()
     }
 
+    /// The type of its values.
     pub fn ty(&self) -> &TypeRef
         ensures { result.now ≡ (input_value_parts self.now).ty }
     {
@@ -152,7 +154,7 @@ fn default_text(alloc: Global, value: &Option<ConstValue>) -> Result<Option<Stri
 }
 
 /// Registers an argument under a name.
-#[tactic(auto, using(crate::proofs::Entries::entries_with_entry))]
+#[tactic(auto, using(gql_meta::proofs::Entries::entries_with_insertion))]
 fn put_argument_meta(
     alloc: Global,
     args: &mut IndexMap<String, MetaInputValue>,
@@ -183,7 +185,7 @@ pub(crate) fn arguments_meta(
 }
 
 /// The arguments with one more: one of its name is replaced at its place, and a new one goes last.
-#[tactic(auto, using(crate::proofs::Entries::entries_with_entry))]
+#[tactic(auto, using(gql_meta::proofs::Entries::entries_with_insertion))]
 pub(crate) fn set_argument(
     alloc: Global,
     arguments: &mut IndexMap<String, InputValue>,

@@ -68,18 +68,21 @@ impl SubscriptionField {
         Ok(self)
     }
 
+    /// The name of the field.
     pub fn name(&self) -> &str
         ensures { result.now ≡ (subscription_field_parts self.now).name }
     {
         self.name.as_str()
     }
 
+    /// The type of its values.
     pub fn ty(&self) -> &TypeRef
         ensures { result.now ≡ (subscription_field_parts self.now).ty }
     {
         &self.ty
     }
 
+    /// Its arguments, each under its name and in the order in which they came: section 3.6.1.
     pub fn arguments(&self) -> &IndexMap<String, InputValue>
         ensures { entries_of input_value_parts result.now.entries ≡ (subscription_field_parts self.now).arguments }
     {

@@ -1,22 +1,22 @@
 -- Changes of entries, one after another, and the lists of the names that types implement.
-use Rattle.std.proofs.Common.{◌≡◌, Bool, true, false, cond, List, [], ◌∷◌, map, refl, ap, ◌∙◌, sym, Some, None, string_bytes, fold, length, subst}
+use Rattle.std.proofs.Common.{◌≡◌, Bool, true, false, cond, ◌||◌, List, [], ◌∷◌, map, refl, ap, ◌∙◌, sym, Some, None, string_bytes, fold, length, suc, subst}
 use Rattle.std.specs.declared.option.Option.{Option}
 use Rattle.std.specs.declared.string.String.{String}
 use Rattle.std.specs.declared.alloc.Global.{Global}
 use Rattle.std.specs.declared.cmp.Ordering.{Ordering}
 use Rattle.std.specs.declared.cmp.Ordering.TheVariants.{Less, Equal, Greater}
 use Rattle.std.specs.Option.{option_map_or, unwrap_or}
-use Rattle.std.specs.Map.{lookup, set_value, remove_entry}
+use Rattle.std.specs.Map.{lookup, set_value, remove_entry, keys_of}
 use Rattle.std.specs.Str.{bytes_eq}
 use Rattle.std.specs.BTreeMap.{insert_entry}
 use Rattle.std.specs.Ordering.{match_ordering, is_eq}
 use Rattle.std.proofs.lemmas.Map.Text.{is_eq-slice_cmp}
 use Rattle.std.proofs.lemmas.Slice.Eq.{bytes_eq-Decides}
-use Rattle.gql_meta.specs.Parts.{Text, at_text, text_cmp}
+use Rattle.gql_meta.specs.Parts.{Text, at_text, is_among, text_cmp, Meta, name_of}
 use Rattle.gql_meta.specs.Views.{text_of, entries_of}
 use Rattle.indexmap.specs.IndexSet.{IndexSet}
-use Rattle.gql_registry.specs.Registry.{HasOnce, names_of, listed, with_name, with_list, with_implements, with_all_implements}
-use Rattle.gql_registry.proofs.Entries.{found_at, written}
+use Rattle.gql_registry.specs.Registry.{HasOnce, names_of, listed, with_name, with_list, with_implements, with_all_implements, with_type}
+use Rattle.gql_meta.proofs.Entries.{found_at, written}
 
 own_text : (t : Text) → bytes_eq t t ≡ true
 own_text t = (bytes_eq-Decides t t).1 refl
@@ -84,6 +84,35 @@ module _ {X : Type 0} (t : Text) where
   pub at_text-set_value : (es : List (Text × X)) (u w : X) → at_text t es ≡ Some u → at_text t (set_value (bytes_eq t) es w) ≡ Some w
   at_text-set_value [] u w some = cc
   at_text-set_value (e ∷ es) u w some = at-cond (bytes_eq t e.0) e es u w refl (at_text-set_value es u w) some
+
+-- ---- one entry more
+
+first_false : (a b : Bool) → a || b ≡ false → a ≡ false
+first_false true b e = cc e
+first_false false b e = refl
+
+second_false : (a b : Bool) → a || b ≡ false → b ≡ false
+second_false true b e = cc e
+second_false false b e = e
+
+module _ {X : Type 0} (t : Text) where
+  -- a text that is new makes the entries one more
+  length-insert : (es : List (Text × X)) (v : X) → is_among t (keys_of es) ≡ false → length (insert_entry text_cmp es t v) ≡ suc (length es)
+  length-insert [] v none = refl
+  length-insert (e ∷ es) v none = by (text_cmp t e.0) refl (length-insert es v)
+    where
+      by : (o : Ordering) → text_cmp t e.0 ≡ o → (is_among t (keys_of es) ≡ false → length (insert_entry text_cmp es t v) ≡ suc (length es))
+          → length (match_ordering o ((t, v) ∷ e ∷ es) ((e.0, v) ∷ es) (e ∷ insert_entry text_cmp es t v)) ≡ suc (suc (length es))
+      by Less p rest = refl
+      by Equal p rest =
+          let same : bytes_eq t e.0 ≡ true = same_text t e.0 Equal p in
+          let apart : bytes_eq t e.0 ≡ false = first_false (bytes_eq t e.0) (is_among t (keys_of es)) none in
+          absurd cc
+      by Greater p rest = ap suc (rest (second_false (bytes_eq t e.0) (is_among t (keys_of es)) none))
+
+-- a type of a new name makes the types one more
+pub one_type_more : (before after : List (Text × Meta)) (type : Meta) → after ≡ with_type before type → is_among (name_of type) (keys_of before) ≡ false → length after ≡ suc (length before)
+one_type_more before after type e new = ap length e ∙ length-insert (name_of type) before type new
 
 -- ---- other names
 

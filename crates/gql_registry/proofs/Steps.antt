@@ -17,7 +17,7 @@ use Rattle.gql_registry.specs.Registry.{Contents, with_possible, with_possible_t
 use Rattle.gql_registry.specs.Additions.{made, all_made, object_with, with_query_field}
 use Rattle.gql_registry.specs.Tables.{step_of}
 use Rattle.gql_registry.specs.declared.additions.Addition.{Addition}
-use Rattle.gql_registry.proofs.Entries.{at_text_of, found_at, missing_at, written}
+use Rattle.gql_meta.proofs.Entries.{sorted_at_text, found_at, missing_at, written}
 
 -- ---- a type where none stands
 
@@ -32,11 +32,11 @@ module _ {A B : Type 0} (f : A → B) (t : Text) (es : List (String Global × A)
 
   -- nothing changes where one stands
   pub kept : is_some (lookup (λ k. is_eq (text_cmp t (string_bytes k))) es) ≡ true → option_map_or (λ _. entries_of f es) (at_text t (entries_of f es)) other ≡ entries_of f es
-  kept p = ap (λ o. option_map_or (λ _. entries_of f es) o other) (sym (at_text_of f t es)) ∙ kept-by (lookup (λ k. is_eq (text_cmp t (string_bytes k))) es) p
+  kept p = ap (λ o. option_map_or (λ _. entries_of f es) o other) (sym (sorted_at_text f t es)) ∙ kept-by (lookup (λ k. is_eq (text_cmp t (string_bytes k))) es) p
 
   -- and another list takes the place where none does
   pub new : is_some (lookup (λ k. is_eq (text_cmp t (string_bytes k))) es) ≡ false → option_map_or (λ _. entries_of f es) (at_text t (entries_of f es)) other ≡ other
-  new p = ap (λ o. option_map_or (λ _. entries_of f es) o other) (sym (at_text_of f t es)) ∙ new-by (lookup (λ k. is_eq (text_cmp t (string_bytes k))) es) p
+  new p = ap (λ o. option_map_or (λ _. entries_of f es) o other) (sym (sorted_at_text f t es)) ∙ new-by (lookup (λ k. is_eq (text_cmp t (string_bytes k))) es) p
 
 -- ---- a field of the query root
 

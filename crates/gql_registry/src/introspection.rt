@@ -165,7 +165,7 @@ fn made_fields(alloc: Global, rows: &[Row]) -> Result<IndexMap<String, MetaField
     Ok(made)
 }
 
-#[tactic(auto, using(crate::proofs::Entries::entries_appended))]
+#[tactic(auto, using(gql_meta::proofs::Entries::entries_with_insertion))]
 fn add_row(
     alloc: Global,
     fields: &mut IndexMap<String, MetaField>,

@@ -12,7 +12,7 @@ use std::alloc::Global;
 use std::collections::BTreeMap;
 
 /// Adds a name, unless it is among the names.
-#[tactic(auto, using(crate::proofs::Names::names_with))]
+#[tactic(auto, using(gql_meta::proofs::Names::names_with))]
 pub(crate) fn add_name(names: &mut IndexSet<String>, name: String) -> Result<(), OutOfMemory>
     ensures names { OnOk result (names_of names.new ≡ with_name (names_of names.old) (text_of name)) }
     ensures once { OnOk result (HasOnce (names_of names.new) (text_of name)) }

@@ -7,15 +7,6 @@ ghost use Rattle.gql_meta.specs.Views.{text_of};
 use gql_lexer::OutOfMemory;
 use std::alloc::Global;
 
-pub(crate) fn lent(text: &Option<String>) -> Option<&str>
-    ensures { option_map (λ lent. lent.now) result ≡ option_map text_of text.now }
-{
-    match text {
-        None => None,
-        Some(text) => Some(text.as_str()),
-    }
-}
-
 pub(crate) fn copied(alloc: Global, text: Option<&str>) -> Result<Option<String>, OutOfMemory>
     ensures { IfOk result (λ copy. option_map text_of copy ≡ option_map (λ lent. lent.now) text.entry) }
 {

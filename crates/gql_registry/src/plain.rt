@@ -195,7 +195,7 @@ fn enum_values(
     Ok(values)
 }
 
-#[tactic(auto, using(crate::proofs::Entries::entries_appended))]
+#[tactic(auto, using(gql_meta::proofs::Entries::entries_with_insertion))]
 fn add_value(
     alloc: Global,
     values: &mut IndexMap<String, MetaEnumValue>,

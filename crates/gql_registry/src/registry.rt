@@ -1,6 +1,6 @@
 //! The registry of a schema.
 
-ghost use Rattle.std.specs.Prelude.{◌≡◌, ◌≢◌, IfOk, OnOk, OnErr, Some, map};
+ghost use Rattle.std.specs.Prelude.{◌≡◌, ◌≢◌, IfOk, OnOk, OnErr, Some, map, false, length, suc};
 ghost use Rattle.std.specs.Map.{keys_of};
 ghost use Rattle.std.specs.Option.{option_map};
 ghost use Rattle.gql_registry.specs.Registry.{HasOnce, registry_of, empty, types_of, query_of, names_of, listed};
@@ -9,7 +9,7 @@ ghost use Rattle.gql_meta.specs.Parts.{Text, name_of, at_text, is_among};
 ghost use Rattle.gql_meta.specs.Views.{text_of, entries_of, meta_of, directive_of};
 
 use crate::lists::{add_to_list, make_listing, put_both};
-use crate::optional::{copied, lent};
+use crate::optional::copied;
 use gql_lexer::OutOfMemory;
 use gql_meta::{IntrospectionMode, MetaDirective, MetaType};
 use indexmap::IndexSet;
@@ -57,6 +57,7 @@ impl Registry {
         self.alloc
     }
 
+    /// The types, each under its name and in name order.
     pub fn types(&self) -> &BTreeMap<String, MetaType>
         ensures { entries_of meta_of result.now.entries ≡ types_of self.now }
     {
@@ -70,6 +71,7 @@ impl Registry {
         self.types.contains_key(name)
     }
 
+    /// The definitions of directives, each under its name and in name order: section 3.13.
     pub fn directives(&self) -> &BTreeMap<String, MetaDirective>
         ensures { entries_of directive_of result.now.entries ≡ (registry_of self.now).directives }
     {
@@ -83,24 +85,28 @@ impl Registry {
         self.implements.get(ty)
     }
 
+    /// The name of the root of queries: section 3.3.1. It is empty until it is set.
     pub fn query_type(&self) -> &str
         ensures { result.now ≡ query_of self.now }
     {
         self.query_type.as_str()
     }
 
+    /// The name of the root of mutations, where there is one.
     pub fn mutation_type(&self) -> Option<&str>
         ensures { option_map (λ name. name.now) result ≡ (registry_of self.now).mutation }
     {
-        lent(&self.mutation_type)
+        self.mutation_type.as_deref()
     }
 
+    /// The name of the root of subscriptions, where there is one.
     pub fn subscription_type(&self) -> Option<&str>
         ensures { option_map (λ name. name.now) result ≡ (registry_of self.now).subscription }
     {
-        lent(&self.subscription_type)
+        self.subscription_type.as_deref()
     }
 
+    /// Whether the schema tells about itself: section 4.
     pub fn introspection_mode(&self) -> IntrospectionMode
         ensures { result ≡ (registry_of self.now).introspection }
     {
@@ -114,6 +120,7 @@ impl Registry {
         self.federation_subscription
     }
 
+    /// Names the root of queries: section 3.3.1. It need not be the name of a type that stands in the registry.
     pub fn set_query_type(&mut self, name: &str) -> Result<(), OutOfMemory>
         ensures contents { OnOk result (registry_of self.new ≡ record (registry_of self.old) { query = name.now }) }
         ensures query { OnOk result (query_of self.new ≡ name.now) }
@@ -124,6 +131,7 @@ impl Registry {
         Ok(())
     }
 
+    /// Names the root of mutations, or says that there is none.
     pub fn set_mutation_type(&mut self, name: Option<&str>) -> Result<(), OutOfMemory>
         ensures contents { OnOk result (registry_of self.new ≡ record (registry_of self.old) { mutation = option_map (λ name. name.now) name.entry }) }
         ensures err { OnErr result (registry_of self.new ≡ registry_of self.old) }
@@ -132,6 +140,7 @@ impl Registry {
         Ok(())
     }
 
+    /// Names the root of subscriptions, or says that there is none.
     pub fn set_subscription_type(&mut self, name: Option<&str>) -> Result<(), OutOfMemory>
         ensures contents { OnOk result (registry_of self.new ≡ record (registry_of self.old) { subscription = option_map (λ name. name.now) name.entry }) }
         ensures err { OnErr result (registry_of self.new ≡ registry_of self.old) }
@@ -140,12 +149,14 @@ impl Registry {
         Ok(())
     }
 
+    /// Says whether the schema tells about itself: section 4. No type is added or removed by it.
     pub fn set_introspection_mode(&mut self, mode: IntrospectionMode)
         ensures { registry_of self.new ≡ record (registry_of self.old) { introspection = mode } }
     {
         self.introspection_mode = mode;
     }
 
+    /// Says whether the subscription root is part of the text for federation.
     pub fn set_federation_subscription(&mut self, on: bool)
         ensures { registry_of self.new ≡ record (registry_of self.old) { federation_subscription = on } }
     {
@@ -195,7 +206,8 @@ impl Registry {
         add_to_list(self.alloc, &mut self.implements, ty, interface)
     }
 
-    /// Puts a type under its name, and then notes each of the interfaces for it, in order: all of that, or nothing.
+    /// Puts a type under its name, and then notes each of the interfaces for it, in order: all of that, or nothing. Where
+    /// no type of the name stood there, the registry has one type more.
     pub fn add_type(
         &mut self,
         ty: MetaType,
@@ -205,6 +217,7 @@ impl Registry {
           types = with_type (types_of self.old) (meta_of ty);
           implements = with_all_implements (name_of (meta_of ty)) (registry_of self.old).implements (names_of interfaces.now);
         }) }
+        ensures one_more { OnOk result (is_among (name_of (meta_of ty)) (keys_of (types_of self.old)) ≡ false → length (types_of self.new) ≡ suc (length (types_of self.old))) }
         ensures err { OnErr result (registry_of self.new ≡ registry_of self.old) }
     {
         if interfaces.is_empty() {

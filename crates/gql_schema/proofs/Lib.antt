@@ -1,4 +1,3 @@
 pub mod Keys
 pub mod Steps
-pub mod Entries
 pub mod Implementers

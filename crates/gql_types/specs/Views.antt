@@ -1,8 +1,9 @@
 -- What the builders of types of the code stand for, and what their refusals tell.
-use Rattle.std.specs.Prelude.{◌≡◌, true, List, map}
+use Rattle.std.specs.Prelude.{◌≡◌, true, List, Option, map}
 use Rattle.std.specs.Option.{option_map, is_some}
 use Rattle.gql_meta.specs.Parts.{Text, is_among}
 use Rattle.gql_meta.specs.Views.{text_of, texts_of, entries_of, invocations_of}
+use Rattle.gql_meta.specs.declared.scalar_validator.ScalarValidator.{ScalarValidator}
 use Rattle.gql_parts.specs.Views.{enum_item_parts, input_value_parts, field_parts, subscription_field_parts}
 use Rattle.gql_types.specs.Types.{ScalarParts, ObjectParts, InterfaceParts, UnionParts, EnumParts, InputObjectParts, SubscriptionParts}
 use Rattle.gql_types.specs.declared.error.BuildError.{BuildError}
@@ -31,6 +32,10 @@ scalar_parts type = record {
   tags = texts_of type.tags;
   directives = invocations_of type.directives;
 }
+
+-- the validator of a scalar, as it is
+abbrev pub scalar_validator : {x g : _} → Scalar x g → Option (ScalarValidator x g)
+scalar_validator type = type.is_valid
 
 abbrev pub object_parts : Object → ObjectParts
 object_parts type = record {

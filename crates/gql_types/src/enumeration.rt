@@ -93,12 +93,14 @@ impl Enum {
         Ok(self)
     }
 
+    /// The name of the enum.
     pub fn type_name(&self) -> &str
         ensures { result.now ≡ (enum_parts self.now).name }
     {
         self.name.as_str()
     }
 
+    /// Its values, each under its name and in the order in which they came.
     pub fn enum_values(&self) -> &IndexMap<String, EnumItem>
         ensures { entries_of enum_item_parts result.now.entries ≡ (enum_parts self.now).items }
     {
@@ -123,7 +125,7 @@ impl Enum {
 }
 
 /// The values with one more: one of its name is replaced at its place, and a new one goes last.
-#[tactic(auto, using(crate::proofs::Entries::entries_with_entry))]
+#[tactic(auto, using(gql_meta::proofs::Entries::entries_with_insertion))]
 fn set_item(
     alloc: Global,
     items: &mut IndexMap<String, EnumItem>,

@@ -103,12 +103,14 @@ impl InputObject {
         Ok(self)
     }
 
+    /// The name of the input object.
     pub fn type_name(&self) -> &str
         ensures { result.now ≡ (input_object_parts self.now).name }
     {
         self.name.as_str()
     }
 
+    /// Its fields, each under its name and in the order in which they came.
     pub fn fields(&self) -> &IndexMap<String, InputValue>
         ensures { entries_of input_value_parts result.now.entries ≡ (input_object_parts self.now).fields }
     {

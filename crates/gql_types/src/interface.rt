@@ -129,12 +129,14 @@ impl Interface {
         Ok(self)
     }
 
+    /// The name of the interface.
     pub fn type_name(&self) -> &str
         ensures { result.now ≡ (interface_parts self.now).name }
     {
         self.name.as_str()
     }
 
+    /// Its fields, each under its name and in the order in which they came.
     pub fn fields(&self) -> &IndexMap<String, InterfaceField>
         ensures { entries_of field_parts result.now.entries ≡ (interface_parts self.now).fields }
     {

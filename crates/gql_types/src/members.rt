@@ -46,7 +46,7 @@ pub(crate) fn put_new_name(names: &mut IndexSet<String>, name: String) -> Result
 }
 
 /// Puts a field under a name.
-#[tactic(auto, using(crate::proofs::Entries::entries_with_entry))]
+#[tactic(auto, using(gql_meta::proofs::Entries::entries_with_insertion))]
 fn put_field(
     alloc: Global,
     made: &mut IndexMap<String, MetaField>,
@@ -61,7 +61,7 @@ fn put_field(
 }
 
 /// Puts an input value under a name.
-#[tactic(auto, using(crate::proofs::Entries::entries_with_entry))]
+#[tactic(auto, using(gql_meta::proofs::Entries::entries_with_insertion))]
 fn put_input_value(
     alloc: Global,
     made: &mut IndexMap<String, MetaInputValue>,
@@ -76,7 +76,7 @@ fn put_input_value(
 }
 
 /// Puts a value of an enum under a name.
-#[tactic(auto, using(crate::proofs::Entries::entries_with_entry))]
+#[tactic(auto, using(gql_meta::proofs::Entries::entries_with_insertion))]
 fn put_enum_value(
     alloc: Global,
     made: &mut IndexMap<String, MetaEnumValue>,

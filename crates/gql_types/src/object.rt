@@ -161,12 +161,14 @@ impl Object {
         Ok(self)
     }
 
+    /// The name of the object.
     pub fn type_name(&self) -> &str
         ensures { result.now ≡ (object_parts self.now).name }
     {
         self.name.as_str()
     }
 
+    /// Its fields, each under its name and in the order in which they came.
     pub fn fields(&self) -> &IndexMap<String, Field>
         ensures { entries_of field_parts result.now.entries ≡ (object_parts self.now).fields }
     {

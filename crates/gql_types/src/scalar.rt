@@ -2,10 +2,11 @@
 
 ghost use Rattle.std.specs.Prelude.{◌≡◌, ◌++◌, ◌∷◌, [], Some, true, IfOk, IfSome, IfNone, map};
 ghost use Rattle.std.specs.Fn.{FnReturnsAt};
+ghost use Rattle.gql_meta.specs.Validators.{asked};
 ghost use Rattle.gql_meta.specs.Views.{text_of, meta_of, validator_of};
 ghost use Rattle.gql_parts.specs.Views.{directive_use};
 ghost use Rattle.gql_types.specs.Types.{new_scalar, scalar_meta};
-ghost use Rattle.gql_types.specs.Views.{scalar_parts};
+ghost use Rattle.gql_types.specs.Views.{scalar_parts, scalar_validator};
 
 use crate::copies::{copied_directives, copied_text, copied_texts};
 use gql_meta::{ConstValue, MetaDirectiveInvocation, MetaType, OutOfMemory, ScalarValidator};
@@ -48,7 +49,7 @@ impl Scalar {
     /// Says which values it takes. The last call counts.
     pub fn validator(mut self, v: ScalarValidator) -> Scalar
         ensures recorded { scalar_parts result ≡ record (scalar_parts self) { is_validated = true } }
-        ensures kept { result.is_valid ≡ Some v }
+        ensures kept { scalar_validator result ≡ Some v }
     {
         self.is_valid = Some(v);
         self
@@ -56,8 +57,8 @@ impl Scalar {
 
     /// Whether it takes a value: what its validator says, and `true` where it has none.
     pub fn validate(&self, value: &ConstValue) -> bool
-        ensures asked { IfSome self.now.is_valid (λ v. FnReturnsAt Test.Fn v.accepts value.now result) }
-        ensures taken { IfNone self.now.is_valid (result ≡ true) }
+        ensures asked { IfSome (scalar_validator self.now) (λ v. FnReturnsAt Test.Fn (asked v) value.now result) }
+        ensures taken { IfNone (scalar_validator self.now) (result ≡ true) }
     {
         match &self.is_valid {
             None => true,
@@ -107,15 +108,17 @@ impl Scalar {
         Ok(self)
     }
 
+    /// The name of the scalar.
     pub fn type_name(&self) -> &str
         ensures { result.now ≡ (scalar_parts self.now).name }
     {
         self.name.as_str()
     }
 
-    /// The type that is registered.
+    /// The type that is registered, with the same validator.
     pub fn meta(&self, alloc: Global) -> Result<MetaType, OutOfMemory>
-        ensures { IfOk result (λ ty. meta_of ty ≡ scalar_meta (scalar_parts self.now)) }
+        ensures registered { IfOk result (λ ty. meta_of ty ≡ scalar_meta (scalar_parts self.now)) }
+        ensures validator { IfOk result (λ ty. validator_of ty ≡ scalar_validator self.now) }
     {
         Ok(MetaType::Scalar {
             name: String::from_str(alloc, self.name.as_str())?,

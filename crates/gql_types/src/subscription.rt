@@ -61,12 +61,14 @@ impl Subscription {
         Ok(self)
     }
 
+    /// The name of the subscription root.
     pub fn type_name(&self) -> &str
         ensures { result.now ≡ (subscription_parts self.now).name }
     {
         self.name.as_str()
     }
 
+    /// Its fields, each under its name and in the order in which they came.
     pub fn fields(&self) -> &IndexMap<String, SubscriptionField>
         ensures { entries_of subscription_field_parts result.now.entries ≡ (subscription_parts self.now).fields }
     {

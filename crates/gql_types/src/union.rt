@@ -41,7 +41,7 @@ impl Union {
     }
 
     /// Gives it a member: one that it has keeps its place, and a new one goes last.
-    #[tactic(auto, using(crate::proofs::Entries::names_with))]
+    #[tactic(auto, using(gql_meta::proofs::Names::names_with))]
     pub fn possible_type(mut self, ty: &str) -> Result<Union, OutOfMemory>
         ensures { IfOk result (λ union. union_parts union
             ≡ record (union_parts self) { possible_types = with_name (union_parts self).possible_types ty.now }) }
@@ -85,6 +85,7 @@ impl Union {
         Ok(self)
     }
 
+    /// The name of the union.
     pub fn type_name(&self) -> &str
         ensures { result.now ≡ (union_parts self.now).name }
     {

@@ -1,5 +1,5 @@
 //! Builds a schema of a shape and a size in code, checks it, and makes its registry. It writes how many types the
-//! registry then has. `bench/schemas.py` times it.
+//! registry then has. `bench/run.py` times it.
 #![tactic(auto)]
 
 use gql_dynamic::{Field, Interface, InterfaceField, Object, OutOfMemory, Type};

@@ -1,5 +1,5 @@
 use Rattle.std.proofs.Common.{◌∙◌}
-use Rattle.gql_check.proofs.Entries.{names_have_text}
+use Rattle.gql_meta.proofs.Names.{names_have_text}
 use Rattle.gql_check.proofs.names.is_among.Goals as goal
 
 pub returns : goal.returns

@@ -1,5 +1,5 @@
 use Rattle.gql_meta.specs.Views.{text_of}
-use Rattle.gql_parts.proofs.Alike.{map_alike}
+use Rattle.gql_meta.proofs.Alike.{map_alike}
 use Rattle.gql_parts.proofs.copies.copied_texts.Goals as goal
 
 pub returns : goal.returns

@@ -3,7 +3,7 @@ use Rattle.std.proofs.lemmas.Result.{on_ok_weaker, on_err_weaker}
 use Rattle.gql_meta.specs.Parts.{at_text}
 use Rattle.gql_meta.specs.Views.{text_of, entries_of}
 use Rattle.gql_registry.specs.Registry.{HasOnce, names_of, listed, with_name}
-use Rattle.gql_registry.proofs.Entries.{written_back, missing_at}
+use Rattle.gql_meta.proofs.Entries.{written_back, missing_at}
 use Rattle.gql_registry.proofs.Changes.{written_name, written_list, put_once}
 use Rattle.gql_registry.proofs.lists.add_to_list.Goals as goal
 

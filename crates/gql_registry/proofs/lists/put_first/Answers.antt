@@ -5,7 +5,7 @@ use Rattle.std.specs.Str.{bytes_eq}
 use Rattle.gql_meta.specs.Parts.{text_cmp, at_text, name_of}
 use Rattle.gql_meta.specs.Views.{text_of, entries_of, meta_of}
 use Rattle.gql_registry.specs.Registry.{names_of}
-use Rattle.gql_registry.proofs.Entries.{entries_with_entry, entries_without}
+use Rattle.gql_meta.proofs.Entries.{entries_with_entry, entries_without}
 use Rattle.gql_registry.proofs.Changes.{with_list-none, remove_entry-insert}
 use Rattle.gql_registry.proofs.lists.put_first.Goals as goal
 

@@ -9,7 +9,7 @@ use Rattle.gql_rules.specs.Faults.{already_exists}
 use Rattle.gql_dynamic.specs.Types.{type_name}
 use Rattle.gql_dynamic.specs.Views.{type_parts}
 use Rattle.gql_check.specs.Views.{schema_parts}
-use Rattle.gql_schema.proofs.Entries.{found_among, nothing_at, entries_of-last}
+use Rattle.gql_meta.proofs.Entries.{found_among, nothing_at, entries_of-last}
 use Rattle.gql_schema.proofs.builder.add_type.Goals as goal
 
 pub returns-then-contains_key-clause-exists : goal.returns-then-contains_key-clause-exists

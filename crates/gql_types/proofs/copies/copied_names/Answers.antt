@@ -1,5 +1,5 @@
 use Rattle.gql_meta.specs.Views.{text_of}
-use Rattle.gql_types.proofs.Alike.{map_alike}
+use Rattle.gql_meta.proofs.Alike.{map_alike}
 use Rattle.gql_types.proofs.copies.copied_names.Goals as goal
 
 pub returns : goal.returns

@@ -5,7 +5,7 @@ use Rattle.gql_meta.specs.Views.{entries_of, field_of}
 use Rattle.gql_parts.specs.Builders.{field_meta}
 use Rattle.gql_parts.specs.Views.{field_parts}
 use Rattle.gql_types.specs.Types.{each_meta}
-use Rattle.gql_types.proofs.Entries.{made_anew}
+use Rattle.gql_types.proofs.Made.{made_anew}
 use Rattle.gql_types.proofs.members.fields_meta.Goals as goal
 
 pub loop-name-init : goal.loop-name-init

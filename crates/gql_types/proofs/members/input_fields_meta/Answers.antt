@@ -5,7 +5,7 @@ use Rattle.gql_meta.specs.Views.{entries_of, input_value_of}
 use Rattle.gql_parts.specs.Builders.{input_value_meta}
 use Rattle.gql_parts.specs.Views.{input_value_parts}
 use Rattle.gql_types.specs.Types.{each_meta}
-use Rattle.gql_types.proofs.Entries.{made_anew}
+use Rattle.gql_types.proofs.Made.{made_anew}
 use Rattle.gql_types.proofs.members.input_fields_meta.Goals as goal
 
 pub loop-name-init : goal.loop-name-init

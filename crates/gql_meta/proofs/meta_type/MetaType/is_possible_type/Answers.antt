@@ -1,5 +1,5 @@
 use Rattle.std.proofs.Common.{◌∙◌}
-use Rattle.gql_meta.proofs.Entries.{names_have_text}
+use Rattle.gql_meta.proofs.Names.{names_have_text}
 use Rattle.gql_meta.proofs.meta_type.MetaType.is_possible_type.Goals as goal
 
 pub returns-in-Interface : goal.returns-in-Interface

@@ -5,7 +5,7 @@ use Rattle.gql_registry.specs.Tables.{step_of}
 use Rattle.gql_registry.specs.declared.additions.Addition.{Addition}
 use Rattle.gql_registry.specs.declared.additions.Addition.TheVariants.{Directive}
 use Rattle.gql_registry.specs.declared.system.SystemDirective.TheVariants.{Skip}
-use Rattle.gql_registry.proofs.Entries.{on_err}
+use Rattle.gql_registry.proofs.Results.{on_err}
 use Rattle.gql_registry.proofs.Steps.{none_made, one_more, all_steps}
 use Rattle.gql_registry.proofs.registry.Registry.add_all.Goals as goal
 

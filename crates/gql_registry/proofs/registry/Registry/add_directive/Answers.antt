@@ -3,7 +3,7 @@ use Rattle.std.specs.BTreeMap.{insert_entry}
 use Rattle.gql_meta.specs.Views.{text_of, directive_of, entries_of}
 use Rattle.gql_meta.specs.Parts.{text_cmp}
 use Rattle.gql_registry.specs.Registry.{registry_of}
-use Rattle.gql_registry.proofs.Entries.{entries_with_entry}
+use Rattle.gql_meta.proofs.Entries.{entries_with_entry}
 use Rattle.gql_registry.proofs.registry.Registry.add_directive.Goals as goal
 
 pub returns-clause-contents : goal.returns-clause-contents

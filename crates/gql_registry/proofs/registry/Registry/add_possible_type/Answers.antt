@@ -2,7 +2,7 @@ use Rattle.std.proofs.Common.{ap, ◌∙◌, ◌≡◌, sym}
 use Rattle.std.proofs.lemmas.Result.{on_ok_weaker, on_err_weaker}
 use Rattle.gql_meta.specs.Views.{text_of, meta_of, entries_of}
 use Rattle.gql_registry.specs.Registry.{registry_of, types_of, with_possible, with_possible_type}
-use Rattle.gql_registry.proofs.Entries.{written_back}
+use Rattle.gql_meta.proofs.Entries.{written_back}
 use Rattle.gql_registry.proofs.Steps.{possible_written, no_type}
 use Rattle.gql_registry.proofs.registry.Registry.add_possible_type.Goals as goal
 

@@ -3,7 +3,7 @@ use Rattle.std.proofs.lemmas.Result.{on_ok_weaker, on_err_weaker}
 use Rattle.gql_meta.specs.Views.{meta_of, field_of, entries_of}
 use Rattle.gql_registry.specs.Registry.{registry_of, types_of}
 use Rattle.gql_registry.specs.Additions.{with_query_field, object_with}
-use Rattle.gql_registry.proofs.Entries.{written_back}
+use Rattle.gql_meta.proofs.Entries.{written_back}
 use Rattle.gql_registry.proofs.Steps.{field_written, no_query}
 use Rattle.gql_registry.proofs.registry.Registry.add_query_field.Goals as goal
 

@@ -2,9 +2,9 @@ use Rattle.std.proofs.Common.{ap, ap₂, ◌∙◌, ◌≡◌, sym, length, true
 use Rattle.std.proofs.lemmas.Result.{on_ok_weaker}
 use Rattle.gql_meta.specs.Parts.{name_of}
 use Rattle.gql_meta.specs.Views.{entries_of, meta_of}
-use Rattle.gql_registry.specs.Registry.{registry_of, types_of, names_of, listed, with_type, with_name, with_list, with_all_implements}
-use Rattle.gql_registry.proofs.Entries.{on_ok_both, on_err_both}
-use Rattle.gql_registry.proofs.Changes.{all_names, no_names}
+use Rattle.gql_registry.specs.Registry.{Contents, registry_of, types_of, names_of, listed, with_type, with_name, with_list, with_all_implements}
+use Rattle.gql_registry.proofs.Results.{on_ok_both, on_err_both}
+use Rattle.gql_registry.proofs.Changes.{all_names, no_names, one_type_more}
 use Rattle.gql_registry.proofs.registry.Registry.add_type.Goals as goal
 
 pub returns-then-is_empty-clause-contents : goal.returns-then-is_empty-clause-contents
@@ -44,3 +44,18 @@ returns-clause-err g c =
     (b : entries_of names_of c.put_both.new.lists.entries ≡ before.implements).
     ap₂ (λ ts ls. record before { types = ts; implements = ls }) a b)
     c.put_both.ensures.types_stay c.put_both.ensures.lists_stay
+
+pub returns-then-is_empty-clause-one_more : goal.returns-then-is_empty-clause-one_more
+returns-then-is_empty-clause-one_more g c =
+    let before = registry_of c.args.self.now in
+    let types = with_type (types_of c.args.self.now) (meta_of c.args.ty) in
+    on_ok_weaker c.put_type.result
+    (λ (e : registry_of c.put_type.new.self ≡ record before { types = types }).
+    one_type_more before.types (types_of c.put_type.new.self) (meta_of c.args.ty) (ap (λ (contents : Contents). contents.types) e))
+    c.put_type.ensures.contents
+
+pub returns-clause-one_more : goal.returns-clause-one_more
+returns-clause-one_more g c =
+    let types = types_of c.args.self.now in
+    let after = entries_of meta_of c.put_both.new.types.entries in
+    on_ok_weaker c.put_both.result (λ (e : after ≡ with_type types (meta_of c.args.ty)). one_type_more types after (meta_of c.args.ty) e) c.put_both.ensures.types

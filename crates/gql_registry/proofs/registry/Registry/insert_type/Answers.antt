@@ -4,13 +4,13 @@ use Rattle.std.specs.BTreeMap.{insert_entry}
 use Rattle.gql_meta.specs.Views.{meta_of, entries_of}
 use Rattle.gql_meta.specs.Parts.{at_text, name_of, text_cmp}
 use Rattle.gql_registry.specs.Registry.{types_of, registry_of}
-use Rattle.gql_registry.proofs.Entries.{at_text_of, entries_with_entry}
+use Rattle.gql_meta.proofs.Entries.{sorted_at_text, entries_with_entry}
 use Rattle.gql_registry.proofs.registry.Registry.insert_type.Goals as goal
 
 pub returns-clause-before : goal.returns-clause-before
 returns-clause-before g c =
     let same : string_bytes c.in_ok-name.name ≡ name_of (meta_of c.args.ty) = search rules in
-    ap (option_map meta_of) c.in_ok-insert.ensures.old ∙ at_text_of meta_of (string_bytes c.in_ok-name.name) c.args.self.now.types.entries
+    ap (option_map meta_of) c.in_ok-insert.ensures.old ∙ sorted_at_text meta_of (string_bytes c.in_ok-name.name) c.args.self.now.types.entries
     ∙ ap (λ t. at_text t (types_of c.args.self.now)) same
 
 pub returns-clause-types : goal.returns-clause-types

@@ -4,7 +4,7 @@ use Rattle.gql_meta.specs.Views.{text_of, entries_of}
 use Rattle.gql_parts.specs.Views.{field_parts}
 use Rattle.gql_meta.specs.Parts.{is_among}
 use Rattle.gql_types.specs.Views.{TellsRepeated}
-use Rattle.gql_types.proofs.Entries.{names_of-entries}
+use Rattle.gql_meta.proofs.Entries.{names_of-entries}
 use Rattle.gql_types.proofs.interface.Interface.field.Goals as goal
 
 pub returns-in_err-put_new-clause-repeated : goal.returns-in_err-put_new-clause-repeated
