@@ -181,6 +181,8 @@ pub(crate) fn arguments_meta(
     for (name, argument) in arguments {
         put_argument_meta(alloc, &mut args, name.as_str(), argument)?;
     }
+    // it is whole, and small maps have room for several entries more
+    args.shrink_to_fit();
     Ok(args)
 }
 

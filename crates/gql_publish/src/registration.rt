@@ -62,6 +62,8 @@ fn meta_fields(
     for field in fields {
         add_field(alloc, &mut made, field)?;
     }
+    // it is whole, and small maps have room for several entries more
+    made.shrink_to_fit();
     Ok(made)
 }
 

@@ -102,6 +102,8 @@ pub(crate) fn fields_meta<Owner: Drop>(
     for (name, field) in fields.iter() {
         put_field(alloc, &mut made, name.as_str(), field.meta(alloc)?)?;
     }
+    // it is whole, and small maps have room for several entries more
+    made.shrink_to_fit();
     Ok(made)
 }
 
@@ -117,6 +119,8 @@ pub(crate) fn subscription_fields_meta(
     for (name, field) in fields.iter() {
         put_field(alloc, &mut made, name.as_str(), field.meta(alloc)?)?;
     }
+    // it is whole, and small maps have room for several entries more
+    made.shrink_to_fit();
     Ok(made)
 }
 
@@ -132,6 +136,8 @@ pub(crate) fn input_fields_meta(
     for (name, field) in fields.iter() {
         put_input_value(alloc, &mut made, name.as_str(), field.meta(alloc)?)?;
     }
+    // it is whole, and small maps have room for several entries more
+    made.shrink_to_fit();
     Ok(made)
 }
 
@@ -147,5 +153,7 @@ pub(crate) fn enum_values_meta(
     for (name, item) in items.iter() {
         put_enum_value(alloc, &mut made, name.as_str(), item.meta(alloc)?)?;
     }
+    // it is whole, and small maps have room for several entries more
+    made.shrink_to_fit();
     Ok(made)
 }

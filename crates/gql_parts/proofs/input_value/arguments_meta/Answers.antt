@@ -12,7 +12,8 @@ pub returns : goal.returns
 returns c =
     let all = c.args.arguments.now.entries in
     let none_left : c.loop-name.name-iterator ≡ [] = search rules in
-    ap (λ left. insert_all bytes_eq (entries_of input_value_of c.loop-name.args.entries) (entries_of (λ a. input_value_meta (input_value_parts a)) left)) (sym none_left)
+    ap (entries_of input_value_of) c.shrink_to_fit.ensures.entries
+    ∙ ap (λ left. insert_all bytes_eq (entries_of input_value_of c.loop-name.args.entries) (entries_of (λ a. input_value_meta (input_value_parts a)) left)) (sym none_left)
     ∙ c.loop-name.invariant
     ∙ insert_all-distinct (λ a. input_value_meta (input_value_parts a)) all c.into_iter-name-iterator.ensures.into_iter_gives.4
     ∙ sym (entries_of-then input_value_meta input_value_parts all)
