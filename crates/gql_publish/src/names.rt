@@ -24,6 +24,7 @@ impl<'a> Model for Names<'a> {
 }
 
 impl<'a> Names<'a> {
+    /// No name yet.
     pub fn new(alloc: Global) -> Names<'a>
         ensures { result ≡ [] }
     {
@@ -32,6 +33,7 @@ impl<'a> Names<'a> {
         }
     }
 
+    /// Whether the name was added.
     pub fn has(&self, name: &str) -> bool
         ensures { result ≡ is_among name.now self.now }
     {

@@ -12,6 +12,7 @@ pub struct SureSource {
 }
 
 impl SureSource {
+    /// The source of these bytes.
     pub fn new(bytes: Vec<u8>) -> SureSource
         ensures { drop result.at result.bytes.items ≡ bytes.items }
     {
@@ -40,6 +41,7 @@ pub struct SureSink {
 }
 
 impl SureSink {
+    /// The sink that nothing was written to.
     pub fn new() -> SureSink
         ensures { result.count ≡ 0 }
     {

@@ -126,18 +126,21 @@ impl<'t> Cursor<'t> {
         matches!(self.here.sort, Sort::End)
     }
 
+    /// Whether a terminal of this sort is next.
     pub fn sees(&self, sort: Sort) -> bool
         ensures { result ≡ starts (sorts.code sort ∷ []) self.now }
     {
         self.here.sort.is(sort)
     }
 
+    /// Whether a name is next, section 2.1.9.
     pub fn sees_name(&self) -> bool
         ensures { result ≡ starts sorts.names self.now }
     {
         self.here.sort.is_name()
     }
 
+    /// Whether a string is next, section 2.9.4.
     pub fn sees_string(&self) -> bool
         ensures { result ≡ starts sorts.strings self.now }
     {
@@ -151,6 +154,7 @@ impl<'t> Cursor<'t> {
         self.here.sort.is_leaf()
     }
 
+    /// Whether a number that no value here holds is next: a float, or one beyond 64 bits.
     pub fn sees_refused_number(&self) -> bool
         ensures { result ≡ starts sorts.refused_numbers self.now }
     {
@@ -178,6 +182,7 @@ impl<'t> Cursor<'t> {
         self.here.sort.is_enum_member()
     }
 
+    /// Whether the word of a kind of operations is next, section 2.3.
     pub fn sees_operation(&self) -> bool
         ensures { result ≡ starts sorts.operations self.now }
     {
@@ -200,6 +205,7 @@ impl<'t> Cursor<'t> {
         self.take_if(self.here.sort.is(sort))
     }
 
+    /// Takes the next terminal, where it is a name.
     pub fn name(&mut self) -> Result<Terminal<'t>, Stopped>
         ensures reads { ReadsTerminal (one_at sorts.names self.old) result self.new }
         ensures name { IfOk result (λ t. IsName t.text.now) }
@@ -207,6 +213,7 @@ impl<'t> Cursor<'t> {
         self.take_if(self.here.sort.is_name())
     }
 
+    /// Takes the next terminal, where it is a name that an enum value may have, section 2.9.6.
     pub fn enum_name(&mut self) -> Result<Terminal<'t>, Stopped>
         ensures reads { ReadsTerminal (one_at sorts.enum_names self.old) result self.new }
         ensures name { IfOk result (λ t. IsName t.text.now) }
@@ -214,6 +221,7 @@ impl<'t> Cursor<'t> {
         self.take_if(self.here.sort.is_enum_name())
     }
 
+    /// Takes the next terminal, where it is a location of directives, section 3.13.
     pub fn location(&mut self) -> Result<Terminal<'t>, Stopped>
         ensures reads { ReadsTerminal (one_at (sorts.location ∷ []) self.old) result self.new }
         ensures name { IfOk result (λ t. IsName t.text.now) }
@@ -221,12 +229,14 @@ impl<'t> Cursor<'t> {
         self.take_if(self.here.sort.is(Sort::Location))
     }
 
+    /// Takes the next terminal, where it is a string.
     pub fn string(&mut self) -> Result<Terminal<'t>, Stopped>
         ensures { ReadsTerminal (one_at sorts.strings self.old) result self.new }
     {
         self.take_if(self.here.sort.is_string())
     }
 
+    /// Takes the next terminal, where it is the word of a kind of operations.
     pub fn operation(&mut self) -> Result<Terminal<'t>, Stopped>
         ensures { ReadsTerminal (one_at sorts.operations self.old) result self.new }
     {

@@ -29,6 +29,7 @@ fn described(cursor: &mut Cursor<'_>, alloc: Global) -> Result<Description, Stop
     })
 }
 
+/// The description of what follows, where one is written, section 3.1.
 #[tactic(auto, unfolding(crate::specs::Grammar::description, crate::specs::Grammar::described))]
 pub fn description(cursor: &mut Cursor<'_>, alloc: Global) -> Result<Option<Description>, Stopped>
     ensures { Reads (grammar.description.read cursor.old) result cursor.new }

@@ -74,6 +74,7 @@ impl<'t> Cursor<'t> {
     }
 }
 
+/// A type reference, section 2.11.
 pub fn type_ref(cursor: &mut Cursor<'_>, alloc: Global) -> Result<TypeRef, Stopped>
     ensures { Reads (grammar.type_ref.read cursor.old) result cursor.new }
 {

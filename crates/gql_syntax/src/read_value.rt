@@ -193,6 +193,7 @@ impl<'t> Cursor<'t> {
     }
 }
 
+/// A value of a document, section 2.9.
 pub fn value(cursor: &mut Cursor<'_>, alloc: Global) -> Result<Literal, Stopped>
     ensures { Reads (grammar.value.read cursor.old) result cursor.new }
 {

@@ -60,12 +60,14 @@ pub enum Sort {
 }
 
 impl Sort {
+    /// Whether it is this sort.
     pub fn is(self, other: Sort) -> bool
         ensures { result ≡ among (spec.code self) (spec.code other ∷ []) }
     {
         self as u8 == other as u8
     }
 
+    /// Whether it is a name that is no keyword.
     pub fn is_other_name(self) -> bool
         ensures { result ≡ (spec.code self == spec.other_name) }
     {
@@ -134,6 +136,7 @@ impl Sort {
         )
     }
 
+    /// Whether it is a string.
     pub fn is_string(self) -> bool
         ensures { result ≡ among (spec.code self) spec.strings }
     {
@@ -172,12 +175,14 @@ impl Sort {
         )
     }
 
+    /// Whether it is a number that no value here holds.
     pub fn is_refused_number(self) -> bool
         ensures { result ≡ among (spec.code self) spec.refused_numbers }
     {
         matches!(self, Sort::BeyondRange | Sort::Float)
     }
 
+    /// Whether a list or an object of values begins with it.
     pub fn is_nest(self) -> bool
         ensures { result ≡ among (spec.code self) spec.nests }
     {
@@ -220,6 +225,7 @@ impl Sort {
         )
     }
 
+    /// Whether a field or an argument begins with it.
     pub fn is_member(self) -> bool
         ensures { result ≡ among (spec.code self) spec.members }
     {
@@ -250,6 +256,7 @@ impl Sort {
         )
     }
 
+    /// Whether an enum value's definition begins with it.
     pub fn is_enum_member(self) -> bool
         ensures { result ≡ among (spec.code self) spec.enum_members }
     {
@@ -277,6 +284,7 @@ impl Sort {
         )
     }
 
+    /// Whether it is the word of a kind of operations.
     pub fn is_operation(self) -> bool
         ensures { result ≡ among (spec.code self) spec.operations }
     {
@@ -286,6 +294,7 @@ impl Sort {
         )
     }
 
+    /// Whether a definition begins with it.
     pub fn is_definition(self) -> bool
         ensures { result ≡ among (spec.code self) spec.definitions }
     {

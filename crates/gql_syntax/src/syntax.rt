@@ -31,6 +31,7 @@ pub struct Description {
     pub at: usize,
 }
 
+/// An argument of a use of a directive, section 2.6.
 #[derive(Debug, Drop)]
 pub struct Argument {
     pub key: PlacedName,
@@ -55,6 +56,7 @@ pub struct InputValue {
     pub uses: Items<Use>,
 }
 
+/// A field of an object or of an interface, section 3.6.
 #[derive(Debug, Drop)]
 pub struct Field {
     pub description: Option<Description>,
@@ -64,6 +66,7 @@ pub struct Field {
     pub uses: Items<Use>,
 }
 
+/// A value of an enum, section 3.9.
 #[derive(Debug, Drop)]
 pub struct EnumValue {
     pub description: Option<Description>,
@@ -132,6 +135,7 @@ pub enum Kind {
     },
 }
 
+/// A definition with its description, section 3.
 #[derive(Debug, Drop)]
 pub struct WrittenDefinition {
     pub description: Option<Description>,

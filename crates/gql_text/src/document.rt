@@ -85,6 +85,7 @@ pub struct InputDef {
     pub at: usize,
 }
 
+/// A value of an enum.
 #[derive(Debug, Drop)]
 pub struct EnumValueDef {
     pub name: Name,
@@ -101,6 +102,7 @@ pub struct DirectiveUse {
     pub at: usize,
 }
 
+/// The definition of a directive.
 #[derive(Debug, Drop)]
 pub struct DirectiveDef {
     pub name: Name,
