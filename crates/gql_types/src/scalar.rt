@@ -1,6 +1,6 @@
 //! Scalars: section 3.5 of the GraphQL specification, October 2021.
 
-ghost use Rattle.std.specs.Prelude.{◌≡◌, ◌++◌, ◌∷◌, [], Some, true, IfOk, IfSome, IfNone, map};
+ghost use Rattle.std.specs.Prelude.{◌≡◌, ◌++◌, ◌∷◌, [], Some, None, true, IfOk, IfSome, IfNone, map};
 ghost use Rattle.std.specs.Fn.{FnReturnsAt};
 ghost use Rattle.gql_meta.specs.Validators.{asked};
 ghost use Rattle.gql_meta.specs.Views.{text_of, meta_of, validator_of};
@@ -32,7 +32,8 @@ pub struct Scalar {
 impl Scalar {
     /// The scalar of that name, of which no more is said.
     pub fn new(alloc: Global, name: &str) -> Result<Scalar, OutOfMemory>
-        ensures { IfOk result (λ scalar. scalar_parts scalar ≡ new_scalar name.now) }
+        ensures recorded { IfOk result (λ scalar. scalar_parts scalar ≡ new_scalar name.now) }
+        ensures validator { IfOk result (λ scalar. scalar_validator scalar ≡ None) }
     {
         Ok(Scalar {
             alloc,
@@ -49,7 +50,7 @@ impl Scalar {
     /// Says which values it takes. The last call counts.
     pub fn validator(mut self, v: ScalarValidator) -> Scalar
         ensures recorded { scalar_parts result ≡ record (scalar_parts self) { is_validated = true } }
-        ensures kept { scalar_validator result ≡ Some v }
+        ensures validator { scalar_validator result ≡ Some v }
     {
         self.is_valid = Some(v);
         self
@@ -68,7 +69,8 @@ impl Scalar {
 
     /// Tells the URL of its specification, section 3.5.5. The last call counts.
     pub fn specified_by_url(mut self, url: &str) -> Result<Scalar, OutOfMemory>
-        ensures { IfOk result (λ scalar. scalar_parts scalar ≡ record (scalar_parts self) { specified_by_url = Some url.now }) }
+        ensures recorded { IfOk result (λ scalar. scalar_parts scalar ≡ record (scalar_parts self) { specified_by_url = Some url.now }) }
+        ensures kept { IfOk result (λ scalar. scalar_validator scalar ≡ scalar_validator self) }
     {
         self.specified_by_url = Some(String::from_str(self.alloc, url)?);
         Ok(self)
@@ -76,7 +78,8 @@ impl Scalar {
 
     /// Describes it. The last call counts.
     pub fn description(mut self, text: &str) -> Result<Scalar, OutOfMemory>
-        ensures { IfOk result (λ scalar. scalar_parts scalar ≡ record (scalar_parts self) { description = Some text.now }) }
+        ensures recorded { IfOk result (λ scalar. scalar_parts scalar ≡ record (scalar_parts self) { description = Some text.now }) }
+        ensures kept { IfOk result (λ scalar. scalar_validator scalar ≡ scalar_validator self) }
     {
         self.description = Some(String::from_str(self.alloc, text)?);
         Ok(self)
@@ -84,7 +87,8 @@ impl Scalar {
 
     /// Marks it as inaccessible, for federation.
     pub fn inaccessible(mut self) -> Scalar
-        ensures { scalar_parts result ≡ record (scalar_parts self) { inaccessible = true } }
+        ensures recorded { scalar_parts result ≡ record (scalar_parts self) { inaccessible = true } }
+        ensures kept { scalar_validator result ≡ scalar_validator self }
     {
         self.inaccessible = true;
         self
@@ -92,7 +96,8 @@ impl Scalar {
 
     /// Tags it, for federation. The last call counts.
     pub fn tags(mut self, tags: &[String]) -> Result<Scalar, OutOfMemory>
-        ensures { IfOk result (λ scalar. scalar_parts scalar ≡ record (scalar_parts self) { tags = map text_of tags.now }) }
+        ensures recorded { IfOk result (λ scalar. scalar_parts scalar ≡ record (scalar_parts self) { tags = map text_of tags.now }) }
+        ensures kept { IfOk result (λ scalar. scalar_validator scalar ≡ scalar_validator self) }
     {
         self.tags = copied_texts(self.alloc, tags)?;
         Ok(self)
@@ -100,8 +105,9 @@ impl Scalar {
 
     /// Uses a directive on it, after those that are used on it.
     pub fn directive(mut self, directive: Directive) -> Result<Scalar, OutOfMemory>
-        ensures { IfOk result (λ scalar. scalar_parts scalar
+        ensures recorded { IfOk result (λ scalar. scalar_parts scalar
             ≡ record (scalar_parts self) { directives = (scalar_parts self).directives ++ directive_use directive ∷ [] }) }
+        ensures kept { IfOk result (λ scalar. scalar_validator scalar ≡ scalar_validator self) }
     {
         let invocation = MetaDirectiveInvocation::from(directive);
         self.directives.push(invocation)?;
