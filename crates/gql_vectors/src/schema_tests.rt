@@ -1,11 +1,9 @@
 //! Schemas that are built in code, and the registries that are made of them.
 
-use gql_dynamic::{
-    Directive, Field, Interface, InterfaceField, Object, OutOfMemory, Scalar, ScalarValidator, Type,
-};
+use gql_dynamic::{Field, Interface, InterfaceField, Object, OutOfMemory, Type};
 use gql_meta::{DirectiveLocation, IntrospectionMode, MetaDirective, MetaType};
 use gql_schema::Schema;
-use gql_value::{ConstValue, TypeRef};
+use gql_value::TypeRef;
 use indexmap::IndexMap;
 use std::alloc::Global;
 use std::process::Abort;
@@ -104,23 +102,4 @@ fn a_schema_may_tell_nothing_about_itself(rt: HostRuntime) {
     let registry = schema.into_registry();
     assert_eq!(rt; registry.types().len(), 6);
     assert!(rt; registry.introspection_mode() == IntrospectionMode::Disabled);
-}
-
-fn is_boolean(value: &ConstValue) -> bool {
-    matches!(value, ConstValue::Boolean(_))
-}
-
-#[test]
-fn the_other_calls_of_a_scalar_keep_its_validator(rt: HostRuntime) {
-    let alloc = rt.alloc();
-    let scalar = Scalar::new(alloc, "Flag").expect(&rt, "memory");
-    let scalar = scalar.validator(ScalarValidator::new(is_boolean));
-    let scalar = scalar.inaccessible();
-    let scalar = scalar.description("d").expect(&rt, "memory");
-    let scalar = scalar.specified_by_url("u").expect(&rt, "memory");
-    let scalar = scalar.tags(&[]).expect(&rt, "memory");
-    let used = Directive::new(alloc, "a").expect(&rt, "memory");
-    let scalar = scalar.directive(used).expect(&rt, "memory");
-    assert!(rt; scalar.validate(&ConstValue::Boolean(true)));
-    assert!(rt; !scalar.validate(&ConstValue::Null));
 }
