@@ -1,26 +1,29 @@
 #!/usr/bin/env python3
-"""Times the program on documents of 1, 4 and 16 MiB, on wide ones, and on hostile inputs; and schemas built in code.
+"""Times the program on documents of 1, 4 and 16 MiB, on wide ones, and on hostile inputs; the readers alone; and
+schemas built in code.
 
-Run it at the top of the repository, after `./gqlsdl </dev/null` has built the program, and `rt run schema_bench` the
-program `schema_bench`; what is not built is left out:
+Run it at the top of the repository, after `./gqlsdl </dev/null` has built the program, and `rt run schema_bench` and
+`rt run reader_bench` the programs of those names; what is not built is left out:
 
     python3 bench/run.py
 
-For each document it prints the seconds of the best of three runs, MB/s, the peak memory, the seconds of `cat` over the
-same bytes, and behind the 16 MiB the ratio of its time to that of the 4 MiB, which stays near 4 where the time is
-linear. For each wide document it prints the seconds of one half as wide as well.
-It needs nothing but Python 3 and writes nothing but a temporary folder.
+Seconds are those of the processor, the best of three runs. For each document it prints them, as a multiple of those of
+`iconv -f UTF-8 -t UTF-8` over the same bytes in the same run, the peak memory as a multiple of the input, the seconds of
+`cat`, and after the 16 MiB the ratio of its time to that of the 4 MiB, which stays near 4 where the time is linear. For
+each wide document it prints the seconds of one half as wide as well.
+It needs nothing but Python 3 and iconv, and writes nothing but a temporary folder.
 """
 
 import os
 import subprocess
 import sys
 import tempfile
-import time
 
 TOP = os.path.dirname(os.path.dirname(os.path.abspath(__file__)))
 PROGRAM = os.path.join(TOP, "crates", "gqlsdl", "out", "gqlsdl")
 SCHEMAS = os.path.join(TOP, "crates", "schema_bench", "out", "schema_bench")
+READERS = os.path.join(TOP, "crates", "reader_bench", "out", "reader_bench")
+ICONV = ["iconv", "-f", "UTF-8", "-t", "UTF-8"]
 MIB = 1 << 20
 HEAD = "schema{query:Query} type Query{v:Int}\n"
 
@@ -83,7 +86,7 @@ SHAPES = {
     "services": (HEAD, SERVICE, ""),
 }
 
-# the front, one numbered line, how often it stands, and the end
+# the beginning, one numbered line, how often it stands, and the end
 WIDE = {
     "100,000 fields in a type": ("type Query{\n", "  field{0}(a: Int): [Int!]!\n", 100_000, "}\n"),
     "100,000 types": ("type Query{v:Int}\n", "type T{0} @a {{ v: Int }}\n", 100_000, ""),
@@ -92,7 +95,7 @@ WIDE = {
     "100,000 union members": ("type Query{v:Int}\nunion U =\n", "  | T{0}\n", 100_000, ""),
 }
 
-# the front, one part, how often it stands, and the status that is wanted
+# the beginning, one part, how often it stands, and the status that is wanted
 HOSTILE = {
     "the empty input": (b"", b"", 0, 1),
     "bytes that are no UTF-8": (b"scalar A\xff", b"", 0, 1),
@@ -114,17 +117,20 @@ BUILT = {
     "100,000 types with one field": ("types", 100_000),
     "20,000 implementers": ("implementers", 20_000),
     "100,000 fields of an interface": ("fields", 100_000),
+    "a chain of 100,000 inputs": ("chain", 100_000),
+    "a ring of 100,000 inputs": ("ring", 100_000),
+    "a chain of 700,000 inputs": ("chain", 700_000),
+    "a ring of 700,000 inputs": ("ring", 700_000),
+    "2,000 inputs, the last needs itself": ("loop", 2_000),
 }
 
 
 def run(command, path, folder):
-    """The status, the seconds and the peak memory in MiB of one run over a file."""
+    """The status, the processor's seconds and the peak memory in bytes of one run over a file."""
     with open(path, "rb") as source, open(os.path.join(folder, "out"), "wb") as target:
-        begun = time.perf_counter()
         child = subprocess.Popen(command, stdin=source, stdout=target, stderr=subprocess.DEVNULL)
         _, status, usage = os.wait4(child.pid, 0)
-        seconds = time.perf_counter() - begun
-    return os.waitstatus_to_exitcode(status), seconds, usage.ru_maxrss / 1024
+    return os.waitstatus_to_exitcode(status), usage.ru_utime + usage.ru_stime, usage.ru_maxrss * 1024
 
 
 def best(command, path, folder):
@@ -133,59 +139,81 @@ def best(command, path, folder):
 
 
 def shapes(folder):
-    print(f"{'document':<12}{'MiB':>5}{'status':>8}{'seconds':>10}{'MB/s':>8}{'peak MiB':>10}{'cat':>9}{'16 to 4':>9}")
+    print(f"{'document':<12}{'MiB':>5}{'status':>8}{'seconds':>10}{'x iconv':>9}{'MB/s':>8}{'peak':>8}{'cat':>9}{'16 to 4':>9}")
     path = os.path.join(folder, "in")
     for name, (head, line, tail) in SHAPES.items():
         earlier = {}
         for size in (1, 4, 16):
             filled(path, head, line, tail, size * MIB)
+            length = os.path.getsize(path)
             status, seconds, peak = best([PROGRAM], path, folder)
+            _, unit, _ = best(ICONV, path, folder)
             _, floor, _ = best(["cat"], path, folder)
             earlier[size] = seconds
             ratio = f"{seconds / earlier[4]:>9.2f}" if size == 16 else ""
-            speed = os.path.getsize(path) / 1e6 / seconds
-            print(f"{name:<12}{size:>5}{status:>8}{seconds:>10.3f}{speed:>8.1f}{peak:>10.1f}{floor:>9.4f}{ratio}")
+            print(
+                f"{name:<12}{size:>5}{status:>8}{seconds:>10.3f}{seconds / unit:>9.1f}"
+                f"{length / 1e6 / seconds:>8.1f}{peak / length:>8.1f}{floor:>9.4f}{ratio}"
+            )
+
+
+READERS_OF = (
+    ("the tree as it is written", "tree"),
+    ("the document that borrows", "borrowed"),
+    ("the document of its own", "document"),
+)
+
+
+def readers(folder):
+    print(f"{'services, 16 MiB':<28}{'seconds':>10}{'x iconv':>9}{'MB/s':>8}{'peak':>8}")
+    path = os.path.join(folder, "in")
+    filled(path, *SHAPES["services"], 16 * MIB)
+    length = os.path.getsize(path)
+    _, unit, _ = best(ICONV, path, folder)
+    for name, word in READERS_OF:
+        _, seconds, peak = best([READERS, word], path, folder)
+        print(f"{name:<28}{seconds:>10.3f}{seconds / unit:>9.1f}{length / 1e6 / seconds:>8.1f}{peak / length:>8.1f}")
 
 
 def wide(folder):
     print(f"\n{'wide document':<28}{'status':>8}{'seconds':>10}{'peak MiB':>10}{'half as wide':>14}")
     path = os.path.join(folder, "in")
-    for name, (front, line, count, end) in WIDE.items():
+    for name, (head, line, count, end) in WIDE.items():
         times = []
         for part in (count // 2, count):
             with open(path, "w", encoding="utf-8") as file:
-                file.write(front)
+                file.write(head)
                 file.writelines(line.format(number) for number in range(part))
                 file.write(end)
             status, seconds, peak = best([PROGRAM], path, folder)
             times.append(seconds)
-        print(f"{name:<28}{status:>8}{times[1]:>10.3f}{peak:>10.1f}{times[0]:>14.3f}")
+        print(f"{name:<28}{status:>8}{times[1]:>10.3f}{peak / MIB:>10.1f}{times[0]:>14.3f}")
 
 
 def hostile(folder):
     print(f"\n{'hostile input':<28}{'status':>8}{'seconds':>10}{'peak MiB':>10}")
     path, good = os.path.join(folder, "in"), True
-    for name, (front, part, count, want) in HOSTILE.items():
+    for name, (head, part, count, want) in HOSTILE.items():
         with open(path, "wb") as file:
-            file.write(front)
+            file.write(head)
             for _ in range(count // 1024):
                 file.write(part * 1024)
             file.write(part * (count % 1024))
         status, seconds, peak = run([PROGRAM], path, folder)
         good = good and status == want
         note = "" if status == want else f"  (status {want} is wanted)"
-        print(f"{name:<28}{status:>8}{seconds:>10.3f}{peak:>10.1f}{note}")
+        print(f"{name:<28}{status:>8}{seconds:>10.3f}{peak / MIB:>10.1f}{note}")
     return good
 
 
 def built(folder):
-    print(f"{'schema built in code':<32}{'status':>8}{'seconds':>10}{'peak MiB':>10}{'half as many':>14}")
+    print(f"{'schema built in code':<38}{'status':>8}{'seconds':>10}{'peak MiB':>10}{'half as many':>14}")
     for name, (shape, count) in BUILT.items():
         times = []
         for part in (count // 2, count):
             status, seconds, peak = best([SCHEMAS, shape, str(part)], os.devnull, folder)
             times.append(seconds)
-        print(f"{name:<32}{status:>8}{times[1]:>10.3f}{peak:>10.1f}{times[0]:>14.3f}")
+        print(f"{name:<38}{status:>8}{times[1]:>10.3f}{peak / MIB:>10.1f}{times[0]:>14.3f}")
 
 
 def documents(folder):
@@ -201,6 +229,10 @@ def main():
             built(folder)
         else:
             print("schema_bench is not built: run `rt run schema_bench` first", file=sys.stderr)
+        if os.access(READERS, os.X_OK):
+            readers(folder)
+        else:
+            print("reader_bench is not built: run `rt run reader_bench` first", file=sys.stderr)
         if os.access(PROGRAM, os.X_OK):
             good = documents(folder)
         else:

@@ -1,6 +1,3 @@
-pub mod Borrowed
-pub mod Entries
-pub mod FirstCycle
-pub mod Among
-pub mod SameKinds
-pub mod Visits
+pub mod Keys
+pub mod RegistrySteps
+pub mod Implementers

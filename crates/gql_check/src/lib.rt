@@ -1,25 +1,21 @@
-//! The rules of a schema, in their order, and the search for an input object that needs itself.
+//! Building a schema: its types, its directives, the rules that it keeps, and its registry.
 #![tactic(auto)]
 
-mod existence;
-mod fields;
-mod fits;
-mod implementation;
-mod inputs;
-mod interfaces;
-mod kinds;
-mod names;
-mod objects;
-mod roots;
-mod rules;
-mod search;
-mod steps;
-#[cfg(test)]
-mod tests;
-mod types;
-mod unions;
+mod builder;
+mod making;
+mod schema;
 
-pub use rules::check;
-pub use search::first_input_cycle;
-pub use steps::Steps;
-pub use types::SchemaTypes;
+pub use builder::SchemaBuilder;
+pub use gql_check_code::{SchemaTypes, Steps, check, first_input_cycle};
+pub use gql_dynamic::{
+    BuildError, Directive, Enum, EnumItem, Field, FieldBuilder, InputObject, InputValue, Interface,
+    InterfaceField, Object, OfInterface, OfObject, OutOfMemory, Scalar, ScalarValidator,
+    SchemaError, SchemaType, Subscription, SubscriptionField, Type, Union,
+};
+pub use gql_registry::{
+    IntrospectionMode, MetaDirective, MetaDirectiveInvocation, MetaTypeId, Registry,
+};
+pub use gql_text_lexer::{Name, NameError, Number};
+pub use gql_text_values::{ConstValue, TypeRef};
+pub use schema::Schema;
+pub use sqlite_items::{Boxed, Items};

@@ -1,13 +1,13 @@
 -- What the errors of the code stand for.
 use Rattle.std.specs.Prelude.{◌≡◌, true, List, Option, Some, None, Result, Ok, Err, IfSome, codes}
-use Rattle.gql_meta.specs.Parts.{Text, is_among}
-use Rattle.gql_meta.specs.Views.{text_of}
-use Rattle.gql_rules.specs.Faults.{Fault, sentence}
-use Rattle.gql_rules.specs.Faults as fault
+use Rattle.gql_registry_meta.specs.Parts.{Text, is_among}
+use Rattle.gql_registry_meta.specs.Views.{text_of}
+use Rattle.gql_check_rules.specs.Faults.{Fault, sentence}
+use Rattle.gql_check_rules.specs.Faults as fault
 use Rattle.gql_dynamic.specs.declared.schema_error.SchemaError.{SchemaError}
 use Rattle.gql_dynamic.specs.declared.schema_error.SchemaError.TheVariants as variant
 
--- the broken rule that an error tells, or nothing for want of memory
+-- the broken rule that an error reports, or nothing where memory ran out
 abbrev pub fault_of : SchemaError → Option Fault
 fault_of (variant.AlreadyExists name) = Some (fault.already_exists (text_of name))
 fault_of (variant.NotFound name) = Some (fault.not_found (text_of name))
@@ -32,19 +32,20 @@ fault_of (variant.ImplementsItself ty) = Some (fault.implements_itself (text_of 
 fault_of (variant.MemberNotObject ty member) = Some (fault.member_not_object (text_of ty) (text_of member))
 fault_of variant.OutOfMemory = None
 
--- the sentence of a broken rule, or of want of memory
-abbrev pub told : Option Fault → Text
-told (Some fault) = sentence fault
-told None = codes "out of memory"
+-- the sentence of a broken rule, or of memory that ran out
+abbrev pub fault_text : Option Fault → Text
+fault_text (Some fault) = sentence fault
+fault_text None = codes "out of memory"
 
+-- the sentence that reports an error
 abbrev pub message_of : SchemaError → Text
-message_of error = told (fault_of error)
+message_of error = fault_text (fault_of error)
 
--- the result tells the first broken rule, unless memory ran out
+-- the result reports the first broken rule, unless memory ran out
 abbrev pub Tells : {T : Type 0} → Result T SchemaError → Option Fault → Type 0
 Tells (Ok x) first = first ≡ None
 Tells (Err error) first = IfSome (fault_of error) (λ fault. first ≡ Some fault)
 
--- the error tells that the name is among the names, unless memory ran out
+-- the error reports that the name is among the names, unless memory ran out
 abbrev pub TellsExisting : Text → List Text → SchemaError → Type 0
-TellsExisting name names error = IfSome (fault_of error) (λ told. (told ≡ fault.already_exists name) × (is_among name names ≡ true))
+TellsExisting name names error = IfSome (fault_of error) (λ reported. (reported ≡ fault.already_exists name) × (is_among name names ≡ true))

@@ -3,13 +3,14 @@
 
 mod schema_error;
 mod schema_type;
-#[cfg(test)]
-mod tests;
 
-pub use gql_types::{
-    BuildError, Directive, Enum, EnumItem, Field, FieldBuilder, InputObject, InputValue, Interface,
-    InterfaceField, Object, OfInterface, OfObject, OutOfMemory, Scalar, ScalarValidator,
-    Subscription, SubscriptionField, Union, to_meta_directive_invocation,
+pub use gql_dynamic_types::{
+    Boxed, BuildError, ConstValue, Directive, Enum, EnumItem, Field, FieldBuilder, InputObject,
+    InputValue, Interface, InterfaceField, Items, MetaDirectiveInvocation, MetaType, Name, Number,
+    Object, OfInterface, OfObject, OutOfMemory, Scalar, ScalarValidator, Subscription,
+    SubscriptionField, TypeRef, Union, to_meta_directive_invocation,
 };
+pub use gql_registry::Registry;
+pub use gql_registry_meta::MetaTypeId;
 pub use schema_error::SchemaError;
 pub use schema_type::{SchemaType, Type};

@@ -1,15 +1,17 @@
 //! Broken rules of a schema: section 3 of the GraphQL specification, October 2021.
 
-ghost use Rattle.std.specs.Prelude.{◌≡◌, ◌∷◌, [], codes, flat_map, IfOk};
+ghost use Rattle.std.specs.Prelude.{◌≡◌, ◌∷◌, [], Some, codes, flat_map, IfOk};
 ghost use Rattle.std.specs.List.{concat};
-ghost use Rattle.gql_meta.specs.Kinds.{kind_text};
-ghost use Rattle.gql_meta.specs.Views.{text_of};
-ghost use Rattle.gql_rules.specs.Faults.{sentence, missing_field_sentence, missing_argument, arg_type, field_type, member_not_object};
+ghost use Rattle.std.specs.Fmt.{WritesOnOk};
+ghost use Rattle.gql_registry_meta.specs.Views.{text_of};
+ghost use Rattle.gql_check_rules.specs.Faults.{sentence, missing_field_sentence};
+ghost use Rattle.gql_check_rules.specs.Faults.{missing_argument, arg_type, field_type, member_not_object};
 ghost use Rattle.gql_dynamic.specs.Errors.{message_of};
 ghost use Rattle.gql_dynamic.specs.declared.schema_error.SchemaError.TheVariants.{OutOfMemory as out_of_memory};
 
-use gql_meta::{MetaTypeId, OutOfMemory};
+use gql_registry_meta::{MetaTypeId, OutOfMemory};
 use std::alloc::{AllocError, AllocFailed, Global};
+use std::fmt;
 
 // What is wrong, as the end of a sentence that names it.
 
@@ -32,7 +34,7 @@ const CYCLE: &str =
     "\" references itself either directly or through referenced Input Objects, at least one of the \
     fields in the chain of references must be either a nullable or a List type.";
 
-/// The first broken rule of a schema, with the names that it tells. `ty` names the type that breaks it.
+/// The first broken rule of a schema, with the names that it reports. `ty` names the type that breaks it.
 #[derive(Debug, Drop)]
 pub enum SchemaError {
     /// A type of this name is there already, or it is the name of a system scalar.
@@ -138,124 +140,130 @@ pub enum SchemaError {
 }
 
 impl SchemaError {
-    /// The sentence that tells the error.
+    /// The sentence that reports the error.
     pub fn message(&self, alloc: Global) -> Result<String, OutOfMemory>
         ensures { IfOk result (λ text. text_of text ≡ message_of self.now) }
     {
+        Ok(format!(in alloc; "{self}")?)
+    }
+}
+
+impl fmt::Display for SchemaError {
+    ghost output = { λ error. Some (message_of error) };
+
+    fn fmt<W: fmt::Write>(&self, f: &mut fmt::Formatter<W>) -> fmt::Result {
         match self {
-            Self::AlreadyExists { name } => of_name(alloc, "Type \"", name, "\" already exists"),
-            Self::NotFound { name } => of_name(alloc, "Type \"", name, "\" not found"),
-            Self::QueryRoot => joined(alloc, &["The query root must be an object"]),
-            Self::MutationRoot => joined(alloc, &["The mutation root must be an object"]),
-            Self::SubscriptionRoot => joined(alloc, &[NO_SUBSCRIPTION]),
-            Self::EmptyObject { ty } => of_name(alloc, "Object \"", ty, NO_FIELD),
-            Self::FieldUnderscores { ty, field } => of_field(alloc, ty, field, RESERVED),
-            Self::ArgUnderscores { ty, field, arg } => of_argument(alloc, ty, field, arg, RESERVED),
-            Self::FieldOutput { ty, field } => of_field(alloc, ty, field, NO_OUTPUT),
-            Self::ArgInput { ty, field, arg } => of_argument(alloc, ty, field, arg, NO_INPUT),
-            Self::FieldInput { ty, field } => of_field(alloc, ty, field, NO_INPUT),
-            Self::OneOfNullable { ty, field } => of_field(alloc, ty, field, "\" must be nullable"),
-            Self::OneOfDefault { ty, field } => of_field(alloc, ty, field, HAS_DEFAULT),
-            Self::InputCycle { ty } => of_name(alloc, "\"", ty, CYCLE),
-            Self::NotInterface { name } => of_name(alloc, "Type \"", name, "\" is not interface"),
+            Self::AlreadyExists { name } => of_name(f, "Type \"", name, "\" already exists"),
+            Self::NotFound { name } => of_name(f, "Type \"", name, "\" not found"),
+            Self::QueryRoot => f.write_str("The query root must be an object"),
+            Self::MutationRoot => f.write_str("The mutation root must be an object"),
+            Self::SubscriptionRoot => f.write_str(NO_SUBSCRIPTION),
+            Self::EmptyObject { ty } => of_name(f, "Object \"", ty, NO_FIELD),
+            Self::FieldUnderscores { ty, field } => of_field(f, ty, field, RESERVED),
+            Self::ArgUnderscores { ty, field, arg } => of_argument(f, ty, field, arg, RESERVED),
+            Self::FieldOutput { ty, field } => of_field(f, ty, field, NO_OUTPUT),
+            Self::ArgInput { ty, field, arg } => of_argument(f, ty, field, arg, NO_INPUT),
+            Self::FieldInput { ty, field } => of_field(f, ty, field, NO_INPUT),
+            Self::OneOfNullable { ty, field } => of_field(f, ty, field, "\" must be nullable"),
+            Self::OneOfDefault { ty, field } => of_field(f, ty, field, HAS_DEFAULT),
+            Self::InputCycle { ty } => of_name(f, "\"", ty, CYCLE),
+            Self::NotInterface { name } => of_name(f, "Type \"", name, "\" is not interface"),
             Self::MissingField {
                 kind,
                 ty,
                 field,
                 interface,
-            } => missing_field(alloc, kind_word(*kind), ty, field, interface),
+            } => missing_field(f, kind.as_str(), ty, field, interface),
             Self::MissingArgument {
                 ty,
                 field,
                 arg,
                 interface,
-            } => missing_argument(alloc, ty, field, arg, interface),
+            } => missing_argument(f, ty, field, arg, interface),
             Self::ArgType {
                 ty,
                 field,
                 arg,
                 interface,
-            } => argument_type(alloc, ty, field, arg, interface),
+            } => argument_type(f, ty, field, arg, interface),
             Self::FieldType {
                 ty,
                 field,
                 interface,
-            } => field_type(alloc, ty, field, interface),
-            Self::ImplementsItself { ty } => of_name(alloc, "Interface \"", ty, ITSELF),
-            Self::MemberNotObject { ty, member } => member_not_object(alloc, ty, member),
-            Self::OutOfMemory => joined(alloc, &["out of memory"]),
+            } => field_type(f, ty, field, interface),
+            Self::ImplementsItself { ty } => of_name(f, "Interface \"", ty, ITSELF),
+            Self::MemberNotObject { ty, member } => member_not_object(f, ty, member),
+            Self::OutOfMemory => f.write_str("out of memory"),
         }
     }
 }
 
-fn kind_word(kind: MetaTypeId) -> &'static str
-    ensures { result.now ≡ kind_text kind }
+/// Writes the parts, one after another.
+fn joined<W: fmt::Write>(f: &mut fmt::Formatter<W>, parts: &[&str]) -> fmt::Result
+    ensures { WritesOnOk W.write_str_gives f.old result
+        (flat_map (λ part. part.now) parts.now) f.new }
 {
-    match kind {
-        MetaTypeId::Scalar => "Scalar",
-        MetaTypeId::Object => "Object",
-        MetaTypeId::Interface => "Interface",
-        MetaTypeId::Union => "Union",
-        MetaTypeId::Enum => "Enum",
-        MetaTypeId::InputObject => "InputObject",
-    }
-}
-
-/// The parts, one after another.
-fn joined(alloc: Global, parts: &[&str]) -> Result<String, OutOfMemory>
-    ensures { IfOk result (λ text. text_of text ≡ flat_map (λ part. part.now) parts.now) }
-{
-    let mut text = String::new(alloc);
     for part in parts {
-        text.push_str(part)?;
+        f.write_str(part)?;
     }
-    Ok(text)
+    Ok(())
 }
 
 /// What is wrong with what has a name.
-fn of_name(alloc: Global, before: &str, name: &String, after: &str) -> Result<String, OutOfMemory>
-    ensures { IfOk result (λ text. text_of text ≡ concat (before.now ∷ text_of name.now ∷ after.now ∷ [])) }
+fn of_name<W: fmt::Write>(
+    f: &mut fmt::Formatter<W>,
+    before: &str,
+    name: &String,
+    after: &str,
+) -> fmt::Result
+    ensures { WritesOnOk W.write_str_gives f.old result
+        (concat (before.now ∷ text_of name.now ∷ after.now ∷ [])) f.new }
 {
-    joined(alloc, &[before, name.as_str(), after])
+    joined(f, &[before, name.as_str(), after])
 }
 
 /// What is wrong with a field.
-fn of_field(alloc: Global, ty: &String, field: &String, what: &str) -> Result<String, OutOfMemory>
-    ensures { IfOk result (λ text. text_of text
-        ≡ concat (codes "Field \"" ∷ text_of ty.now ∷ codes "." ∷ text_of field.now ∷ what.now ∷ [])) }
+fn of_field<W: fmt::Write>(
+    f: &mut fmt::Formatter<W>,
+    ty: &String,
+    field: &String,
+    what: &str,
+) -> fmt::Result
+    ensures { WritesOnOk W.write_str_gives f.old result
+        (concat (codes "Field \"" ∷ text_of ty.now ∷ codes "." ∷ text_of field.now ∷ what.now ∷ [])) f.new }
 {
-    joined(alloc, &["Field \"", ty.as_str(), ".", field.as_str(), what])
+    joined(f, &["Field \"", ty.as_str(), ".", field.as_str(), what])
 }
 
 /// What is wrong with an argument.
-fn of_argument(
-    alloc: Global,
+fn of_argument<W: fmt::Write>(
+    f: &mut fmt::Formatter<W>,
     ty: &String,
     field: &String,
     arg: &String,
     what: &str,
-) -> Result<String, OutOfMemory>
-    ensures { IfOk result (λ text. text_of text ≡ concat
-        (codes "Argument \"" ∷ text_of ty.now ∷ codes "." ∷ text_of field.now ∷ codes "." ∷ text_of arg.now ∷ what.now ∷ [])) }
+) -> fmt::Result
+    ensures { WritesOnOk W.write_str_gives f.old result
+        (concat (codes "Argument \"" ∷ text_of ty.now ∷ codes "." ∷ text_of field.now ∷ codes "." ∷ text_of arg.now ∷ what.now ∷ [])) f.new }
 {
     let (ty, field, arg) = (ty.as_str(), field.as_str(), arg.as_str());
-    joined(alloc, &["Argument \"", ty, ".", field, ".", arg, what])
+    joined(f, &["Argument \"", ty, ".", field, ".", arg, what])
 }
 
 /// A type of the kind that the word names lacks a field.
-fn missing_field(
-    alloc: Global,
+fn missing_field<W: fmt::Write>(
+    f: &mut fmt::Formatter<W>,
     word: &str,
     ty: &String,
     field: &String,
     interface: &String,
-) -> Result<String, OutOfMemory>
-    ensures { IfOk result (λ text. text_of text
-        ≡ missing_field_sentence word.now (text_of ty.now) (text_of field.now) (text_of interface.now)) }
+) -> fmt::Result
+    ensures { WritesOnOk W.write_str_gives f.old result
+        (missing_field_sentence word.now (text_of ty.now) (text_of field.now) (text_of interface.now)) f.new }
 {
     let (ty, field, interface) = (ty.as_str(), field.as_str(), interface.as_str());
     joined(
-        alloc,
+        f,
         &[
             word,
             " \"",
@@ -269,15 +277,15 @@ fn missing_field(
     )
 }
 
-fn missing_argument(
-    alloc: Global,
+fn missing_argument<W: fmt::Write>(
+    f: &mut fmt::Formatter<W>,
     ty: &String,
     field: &String,
     arg: &String,
     interface: &String,
-) -> Result<String, OutOfMemory>
-    ensures { IfOk result (λ text. text_of text
-        ≡ sentence (missing_argument (text_of ty.now) (text_of field.now) (text_of arg.now) (text_of interface.now))) }
+) -> fmt::Result
+    ensures { WritesOnOk W.write_str_gives f.old result
+        (sentence (missing_argument (text_of ty.now) (text_of field.now) (text_of arg.now) (text_of interface.now))) f.new }
 {
     let (ty, field, arg, interface) = (
         ty.as_str(),
@@ -286,7 +294,7 @@ fn missing_argument(
         interface.as_str(),
     );
     joined(
-        alloc,
+        f,
         &[
             "Field \"",
             ty,
@@ -303,18 +311,18 @@ fn missing_argument(
     )
 }
 
-fn argument_type(
-    alloc: Global,
+fn argument_type<W: fmt::Write>(
+    f: &mut fmt::Formatter<W>,
     ty: &String,
     field: &String,
     arg: &String,
     interface: &String,
-) -> Result<String, OutOfMemory>
-    ensures { IfOk result (λ text. text_of text
-        ≡ sentence (arg_type (text_of ty.now) (text_of field.now) (text_of arg.now) (text_of interface.now))) }
+) -> fmt::Result
+    ensures { WritesOnOk W.write_str_gives f.old result
+        (sentence (arg_type (text_of ty.now) (text_of field.now) (text_of arg.now) (text_of interface.now))) f.new }
 {
     joined(
-        alloc,
+        f,
         &[
             "Argument \"",
             interface.as_str(),
@@ -333,18 +341,18 @@ fn argument_type(
     )
 }
 
-fn field_type(
-    alloc: Global,
+fn field_type<W: fmt::Write>(
+    f: &mut fmt::Formatter<W>,
     ty: &String,
     field: &String,
     interface: &String,
-) -> Result<String, OutOfMemory>
-    ensures { IfOk result (λ text. text_of text
-        ≡ sentence (field_type (text_of ty.now) (text_of field.now) (text_of interface.now))) }
+) -> fmt::Result
+    ensures { WritesOnOk W.write_str_gives f.old result
+        (sentence (field_type (text_of ty.now) (text_of field.now) (text_of interface.now))) f.new }
 {
     let (ty, field, interface) = (ty.as_str(), field.as_str(), interface.as_str());
     joined(
-        alloc,
+        f,
         &[
             "Field \"",
             ty,
@@ -359,11 +367,16 @@ fn field_type(
     )
 }
 
-fn member_not_object(alloc: Global, ty: &String, member: &String) -> Result<String, OutOfMemory>
-    ensures { IfOk result (λ text. text_of text ≡ sentence (member_not_object (text_of ty.now) (text_of member.now))) }
+fn member_not_object<W: fmt::Write>(
+    f: &mut fmt::Formatter<W>,
+    ty: &String,
+    member: &String,
+) -> fmt::Result
+    ensures { WritesOnOk W.write_str_gives f.old result
+        (sentence (member_not_object (text_of ty.now) (text_of member.now))) f.new }
 {
     joined(
-        alloc,
+        f,
         &[
             "Member \"",
             member.as_str(),

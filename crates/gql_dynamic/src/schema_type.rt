@@ -1,20 +1,21 @@
 //! Types of a schema, and their registration: section 3.4 of the GraphQL specification, October 2021.
 
-ghost use Rattle.std.specs.Prelude.{◌≡◌, false, IfErr, OnOk, OnErr, length, suc};
+ghost use Rattle.std.specs.Prelude.{◌≡◌, IfErr, OnOk, OnErr};
 ghost use Rattle.std.specs.Map.{keys_of};
 ghost use Rattle.std.specs.Option.{option_map};
-ghost use Rattle.gql_meta.specs.Parts.{is_among};
-ghost use Rattle.gql_registry.specs.Registry.{registry_of, types_of, with_type, with_all_implements};
-ghost use Rattle.gql_types.specs.Views.{object_parts, interface_parts, input_object_parts, subscription_parts};
-ghost use Rattle.gql_dynamic.specs.Types.{type_name, type_meta, interfaces, object_of, interface_of, input_object_of, subscription_of, is_output, is_input};
-ghost use Rattle.gql_dynamic.specs.Views.{type_parts};
+ghost use Rattle.gql_registry.specs.Registry.{types_of, IsUnchanged};
+ghost use Rattle.gql_dynamic_types.specs.Types.{IsNew};
+ghost use Rattle.gql_dynamic_types.specs.TypeViews.{object_parts, interface_parts, input_object_parts, subscription_parts};
+ghost use Rattle.gql_dynamic.specs.SchemaTypes.{type_name, object_of, interface_of, input_object_of, subscription_of};
+ghost use Rattle.gql_dynamic.specs.SchemaTypes.{is_output, is_input};
+ghost use Rattle.gql_dynamic.specs.SchemaViews.{type_parts, HasType, HasOneMore};
 ghost use Rattle.gql_dynamic.specs.Errors.{TellsExisting};
 ghost use Rattle.gql_dynamic.specs.declared.schema_type.SchemaType.TheVariants as variant;
 
 use crate::schema_error::SchemaError;
-use gql_meta::OutOfMemory;
+use gql_dynamic_types::{Enum, InputObject, Interface, Object, Scalar, Subscription, Union};
 use gql_registry::Registry;
-use gql_types::{Enum, InputObject, Interface, Object, Scalar, Subscription, Union};
+use gql_registry_meta::OutOfMemory;
 use indexmap::IndexSet;
 use std::alloc::Global;
 
@@ -63,7 +64,8 @@ impl SchemaType {
 
     /// It, where it is an interface.
     pub fn as_interface(&self) -> Option<&Interface>
-        ensures { option_map (λ ty. interface_parts ty.now) result ≡ interface_of (type_parts self.now) }
+        ensures { option_map (λ ty. interface_parts ty.now) result
+            ≡ interface_of (type_parts self.now) }
     {
         match self {
             SchemaType::Interface(ty) => Some(ty),
@@ -73,7 +75,8 @@ impl SchemaType {
 
     /// It, where it is an input object.
     pub fn as_input_object(&self) -> Option<&InputObject>
-        ensures { option_map (λ ty. input_object_parts ty.now) result ≡ input_object_of (type_parts self.now) }
+        ensures { option_map (λ ty. input_object_parts ty.now) result
+            ≡ input_object_of (type_parts self.now) }
     {
         match self {
             SchemaType::InputObject(ty) => Some(ty),
@@ -83,7 +86,8 @@ impl SchemaType {
 
     /// It, where it is a subscription root.
     pub fn as_subscription(&self) -> Option<&Subscription>
-        ensures { option_map (λ ty. subscription_parts ty.now) result ≡ subscription_of (type_parts self.now) }
+        ensures { option_map (λ ty. subscription_parts ty.now) result
+            ≡ subscription_of (type_parts self.now) }
     {
         match self {
             SchemaType::Subscription(ty) => Some(ty),
@@ -128,14 +132,14 @@ impl SchemaType {
     ///
     /// Answers `AlreadyExists` where the registry has a type of its name.
     pub fn register(&self, registry: &mut Registry) -> Result<(), SchemaError>
-        ensures added { OnOk result (registry_of registry.new ≡ record (registry_of registry.old) {
-          types = with_type (types_of registry.old) (type_meta (type_parts self.now));
-          implements = with_all_implements (type_name (type_parts self.now)) (registry_of registry.old).implements (interfaces (type_parts self.now));
-        }) }
-        ensures one_more { OnOk result (length (types_of registry.new) ≡ suc (length (types_of registry.old))) }
-        ensures new { OnOk result (is_among (type_name (type_parts self.now)) (keys_of (types_of registry.old)) ≡ false) }
-        ensures exists { IfErr result (TellsExisting (type_name (type_parts self.now)) (keys_of (types_of registry.old))) }
-        ensures refused { OnErr result (registry_of registry.new ≡ registry_of registry.old) }
+        ensures added { OnOk result (HasType (type_parts self.now) registry.old registry.new) }
+        ensures one_more { OnOk result (
+            HasOneMore (types_of registry.old) (types_of registry.new)) }
+        ensures new { OnOk result (
+            IsNew (type_name (type_parts self.now)) (types_of registry.old)) }
+        ensures exists { IfErr result (
+            TellsExisting (type_name (type_parts self.now)) (keys_of (types_of registry.old))) }
+        ensures refused { OnErr result (IsUnchanged registry.old registry.new) }
     {
         if registry.has_type(self.name()) {
             return Err(SchemaError::AlreadyExists {
@@ -147,15 +151,13 @@ impl SchemaType {
     }
 
     /// Adds it, with the interfaces that it implements, to a registry that has no type of its name, and so has one type
-    /// more behind it: all of that, or nothing.
+    /// more after it: all of that, or nothing.
     fn add_new(&self, registry: &mut Registry) -> Result<(), OutOfMemory>
-        requires { is_among (type_name (type_parts self.now)) (keys_of (types_of registry.old)) ≡ false }
-        ensures added { OnOk result (registry_of registry.new ≡ record (registry_of registry.old) {
-          types = with_type (types_of registry.old) (type_meta (type_parts self.now));
-          implements = with_all_implements (type_name (type_parts self.now)) (registry_of registry.old).implements (interfaces (type_parts self.now));
-        }) }
-        ensures one_more { OnOk result (length (types_of registry.new) ≡ suc (length (types_of registry.old))) }
-        ensures refused { OnErr result (registry_of registry.new ≡ registry_of registry.old) }
+        requires { IsNew (type_name (type_parts self.now)) (types_of registry.old) }
+        ensures added { OnOk result (HasType (type_parts self.now) registry.old registry.new) }
+        ensures one_more { OnOk result (
+            HasOneMore (types_of registry.old) (types_of registry.new)) }
+        ensures refused { OnErr result (IsUnchanged registry.old registry.new) }
     {
         let alloc = registry.allocator();
         let none = IndexSet::new(alloc);

@@ -3,7 +3,7 @@ use Rattle.std.proofs.Common.{◌≡◌, ℕ, suc, ◌+◌, Bool, true, false, L
 use Rattle.std.specs.Prelude.{not, ◌&&◌, ◌||◌, ◌⊎◌, ◌==◌}
 use Rattle.std.proofs.lemmas.List.{append-nil}
 use Rattle.gql_grammar.specs.Form.{Terminal, Form, among, apart, one, seq, opt, opt_spells, many, many_spell, alt, refused, ◌<$>◌}
-use Rattle.gql_grammar.specs.Brackets.{open_behind, open_after, Exceeds}
+use Rattle.gql_grammar.specs.Brackets.{open_after_one, open_after, Exceeds}
 use Rattle.gql_grammar.proofs.Laws.{apart_false}
 
 module _ (opening closing limits : List ℕ) (oc : apart opening closing ≡ true) (lo : apart limits opening ≡ true) (lc : apart limits closing ≡ true) where
@@ -41,9 +41,9 @@ module _ (opening closing limits : List ℕ) (oc : apart opening closing ≡ tru
 
   open_after-append : (n : ℕ) (u v : List Terminal) → open_after opening closing n (u ++ v) ≡ open_after opening closing (open_after opening closing n u) v
   open_after-append n [] v = refl
-  open_after-append n (t ∷ u) v = open_after-append (open_behind opening closing n t) u v
+  open_after-append n (t ∷ u) v = open_after-append (open_after_one opening closing n t) u v
 
-  opens : (n : ℕ) (t : Terminal) → among t.sort opening ≡ true → open_behind opening closing n t ≡ n + 1
+  opens : (n : ℕ) (t : Terminal) → among t.sort opening ≡ true → open_after_one opening closing n t ≡ n + 1
   opens n t e = rw e refl
 
   -- a token that exceeds the limit is not the last one of a spelling
@@ -71,7 +71,7 @@ module _ (opening closing limits : List ℕ) (oc : apart opening closing ≡ tru
 
   -- one token that is no bracket and is not refused
   module _ (set : List ℕ) (so : apart set opening ≡ true) (sc : apart set closing ≡ true) (sl : apart set limits ≡ true) where
-    stays : (n : ℕ) (t : Terminal) → among t.sort set ≡ true → open_behind opening closing n t ≡ n
+    stays : (n : ℕ) (t : Terminal) → among t.sort set ≡ true → open_after_one opening closing n t ≡ n
     stays n t e = rw (apart_false t.sort set opening so e, apart_false t.sort set closing sc e) refl
 
     pub one_counts : (most : ℕ) → Counts (one set) most
@@ -102,7 +102,7 @@ module _ (opening closing limits : List ℕ) (oc : apart opening closing ≡ tru
     seq_clean : (p : A × B) (w : List Terminal) → (seq f g).spells p w → clear w ≡ true
     seq_clean p w (u, v, su, sv, e) = rw e (clear-append u v (cf.clean p.0 u su) (cg.clean p.1 v sv))
 
-    -- behind a spelling as many are open as before
+    -- after a spelling as many are open as before
     behind : (a : A) (u v : List Terminal) (t : Terminal) (n : ℕ) → f.spells a u → Exceeds opening closing limits most n v t → Exceeds opening closing limits most n (u ++ v) t
     behind a u v t n su (inl r) = inl r
     behind a u v t n su (inr o) = inr (o.0, cf.whole a u su n v ∙ o.1)
@@ -224,10 +224,10 @@ module _ (opening closing limits : List ℕ) (oc : apart opening closing ≡ tru
         by_test true k e = grind arith
         by_test false k e = absurd cc
 
-    opened : (n : ℕ) (t : Terminal) → among t.sort (o ∷ []) ≡ true → open_behind opening closing n t ≡ n + 1
+    opened : (n : ℕ) (t : Terminal) → among t.sort (o ∷ []) ≡ true → open_after_one opening closing n t ≡ n + 1
     opened n t e = rw (same_sort t.sort o e, is_open) refl
 
-    closed : (n : ℕ) (t : Terminal) → among t.sort (c ∷ []) ≡ true → open_behind opening closing (n + 1) t ≡ n
+    closed : (n : ℕ) (t : Terminal) → among t.sort (c ∷ []) ≡ true → open_after_one opening closing (n + 1) t ≡ n
     closed n t e = rw (same_sort t.sort c e, close_open, is_close) (omega arith)
 
     within_whole : (p : Terminal × (A × Terminal)) (u : List Terminal) → within.spells p u → (n : ℕ) (rest : List Terminal) → open_after opening closing n (u ++ rest) ≡ open_after opening closing n rest

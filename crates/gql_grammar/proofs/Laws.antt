@@ -3,7 +3,7 @@ use Rattle.std.proofs.Common.{◌≡◌, ℕ, zero, suc, ◌<◌, ◌≤◌, Boo
 use Rattle.std.specs.Prelude.{not, ◌||◌, ◌&&◌, ◌==◌, ◌⊎◌}
 use Rattle.std.proofs.lemmas.List.{append-nil}
 use Rattle.std.proofs.lemmas.Bool.{eqb-true}
-use Rattle.gql_grammar.specs.Form.{Terminal, Syntax, Stop, Read, ◌>>=◌, among, apart, starts, Form, one, seq, opt, opt_spells, many_spell, many_from, many_read, many, some, alt, ◌<$>◌, refused, refused_at, declared, limited}
+use Rattle.gql_grammar.specs.Form.{Terminal, Syntax, Stop, Read, ◌>>=◌, among, apart, starts, Form, one, seq, opt, opt_spells, many_spell, many_from, many_read, many, some, alt, ◌<$>◌, refused, refused_at, declared, limited, Shortens}
 
 pub record Lawful {A : Type 0} (f : Form A) : Type 0 where
   -- only a form that may be empty has an empty spelling, and each other one begins with a first sort
@@ -227,7 +227,7 @@ module _ {A : Type 0} (f : Form A) (lf : Lawful f) (solid : f.empty ≡ false) w
   long a [] s = let e = lf.empties a s in absurd cc
   long a (t ∷ u) s = omega arith
 
-  -- behind a whole one comes another, or what comes behind all
+  -- after a whole one comes another, or what comes after all
   module _ (ll : apart f.first f.more ≡ true) where
     next_more : (all : List A) (v rest : List Terminal) → many_spell f.spells all v → starts (f.first ++ f.more) rest ≡ false → starts f.more (v ++ rest) ≡ false
     next_more all [] rest s k = (rest_more rest k).1
@@ -329,9 +329,6 @@ shorter f lf solid ts a rest e =
     let u = lf.found ts a rest e in
     let h = long f lf solid a u.0 u.1 in
     omega (arith, ap length u.2, length-append u.0 rest)
-
-abbrev pub Shortens : {A : Type 0} → (List Terminal → Read A) → Type 0
-Shortens {A} read = (ts : List Terminal) (a : A) (rest : List Terminal) → read ts ≡ Ok (a, rest) → length rest < length ts
 
 module _ {A : Type 0} (set : List ℕ) (read : List Terminal → Read A) (short : Shortens read) where
   -- the fuel does not matter

@@ -140,7 +140,7 @@ split (a ∷ w) v (b ∷ x) y e =
 abbrev pub Then : {A : Type 0} → Form A → (List Terminal → Type 0) → List Terminal → Type 0
 Then {A} f more ts = f.begins ts ⊎ ((a : A) × (u : List Terminal) × (v : List Terminal) × f.spells a u × more v × (ts ≡ u ++ v))
 
--- what breaks a limit of a first form, or of more behind it
+-- what breaks a limit of a first form, or of more after it
 abbrev pub ThenBreaks : {A : Type 0} → Form A → (List Terminal → Terminal → Type 0) → List Terminal → Terminal → Type 0
 ThenBreaks {A} f more ts t = f.breaks ts t ⊎ ((a : A) × (u : List Terminal) × (v : List Terminal) × f.spells a u × more v t × (ts ≡ u ++ v))
 
@@ -530,7 +530,7 @@ module _ {A : Type 0} (f : Form A) (ef : Exact f) (solid : f.empty ≡ false) (l
   many_broken : (ts : List Terminal) (t : Terminal) → (many f).breaks ts t → (many f).begins (ts ++ t ∷ [])
   many_broken ts t (all, u, v, su, bv, e) = (all, u, v ++ t ∷ [], su, ef.broken v t bv, ap (λ (l : List Terminal). l ++ t ∷ []) e ∙ append_assoc u v (t ∷ []))
 
-  -- behind whole ones comes another, or the token that breaks a limit
+  -- after whole ones comes another, or the token that breaks a limit
   goes_apart : (all : List A) (u v : List Terminal) (t : Terminal) (rest : List Terminal) → many_spell f.spells all u → f.breaks v t → starts f.more (u ++ (v ++ t ∷ rest)) ≡ false
   goes_apart all [] v t rest s b = broken_apart f ef f.more ll v t rest b
   goes_apart all (x ∷ u) v t rest s b = apart_false x.sort f.first f.more ll (lf.firsts all x u s)

@@ -2,7 +2,7 @@
 -- form is read with one token of sight. A grammar is a list of forms, one for each of its rules, made of each other by
 -- the combinators below. That they agree is `Exact` of proofs/Stops: what a form reads is what the tokens spell, the only
 -- value that they spell, and a fault stands at the first token with which they begin none.
-use Rattle.std.specs.Prelude.{◌≡◌, ◌≤◌, ℕ, zero, suc, ◌+◌, Bool, true, false, not, ◌||◌, ◌&&◌, if◌then◌else◌, ◌==◌, nat_lt, List, [], ◌∷◌, ◌++◌, length, Option, Some, None, Result, Ok, Err, ◌⊎◌}
+use Rattle.std.specs.Prelude.{◌≡◌, ◌<◌, ◌≤◌, ℕ, zero, suc, ◌+◌, Bool, true, false, not, ◌||◌, ◌&&◌, if◌then◌else◌, ◌==◌, nat_lt, List, [], ◌∷◌, ◌++◌, length, Option, Some, None, Result, Ok, Err, ◌⊎◌}
 
 -- a token as a grammar sees it: its sort, its text and its place
 pub record Terminal : Type 0 where
@@ -10,7 +10,7 @@ pub record Terminal : Type 0 where
   pub text : List ℕ
   pub at : ℕ
 
--- Behind the tokens of a text stands one more terminal, of one of two sorts that no form takes.
+-- After the tokens of a text stands one more terminal, of one of two sorts that no form takes.
 -- the sort of the end of a text
 abbrev pub end_of_text : ℕ
 end_of_text = 0
@@ -19,6 +19,7 @@ end_of_text = 0
 abbrev pub no_token : ℕ
 no_token = 1
 
+-- the sort is one of the two
 abbrev pub is_end : ℕ → Bool
 is_end sort = nat_lt sort 2
 
@@ -37,20 +38,24 @@ abbrev pub place : List Terminal → ℕ
 place [] = 0
 place (t ∷ ts) = t.at
 
+-- what reading gives: a value and the tokens after it, or a stop
 abbrev pub Read : Type 0 → Type 0
 Read A = Result (A × List Terminal) Stop
 
 infixl 10 ◌>>=◌
+-- the second of the value of the first, or the stop of the first
 abbrev pub ◌>>=◌ : {A B : Type 0} → Result A Stop → (A → Result B Stop) → Result B Stop
 (Ok x) >>= f = f x
 (Err e) >>= f = Err e
 
 -- ---- sets of sorts
 
+-- the sort is in the set
 abbrev pub among : ℕ → List ℕ → Bool
 among s [] = false
 among s (x ∷ xs) = (s == x) || among s xs
 
+-- no sort is in both sets
 abbrev pub apart : List ℕ → List ℕ → Bool
 apart [] ys = true
 apart (x ∷ xs) ys = not (among x ys) && apart xs ys
@@ -71,13 +76,14 @@ pub record Form (A : Type 0) : Type 1 where
   pub empty : Bool
   -- the tokens are a spelling of the value
   pub spells : A → List Terminal → Type 0
-  -- the tokens are the front of a spelling, or of one up to a token that breaks a limit
+  -- the tokens are the prefix of a spelling, or of one up to a token that breaks a limit
   pub begins : List Terminal → Type 0
-  -- behind these tokens the token breaks a limit of the form
+  -- after these tokens the token breaks a limit of the form
   pub breaks : List Terminal → Terminal → Type 0
-  -- the value at the front and the tokens behind it, or where there is none
+  -- the value that a prefix spells and the tokens after it, or where there is none
   pub read : List Terminal → Read A
 
+-- the next token, where it is of one of these sorts
 abbrev pub one_at : List ℕ → List Terminal → Read Terminal
 one_at set [] = Err (record { fault = Syntax; at = 0 })
 one_at set (t ∷ ts) = if among t.sort set then Ok (t, ts) else Err (record { fault = Syntax; at = t.at })
@@ -94,6 +100,7 @@ one set = record {
   read = one_at set;
 }
 
+-- what reads the one and then the other
 abbrev pub seq_read : {A B : Type 0} → (List Terminal → Read A) → (List Terminal → Read B) → List Terminal → Read (A × B)
 seq_read f g ts = f ts >>= λ x. g x.1 >>= λ y. Ok ((x.0, y.0), y.1)
 
@@ -109,14 +116,16 @@ seq {A} {B} f g = record {
   read = seq_read f.read g.read;
 }
 
--- a form or nothing
+-- no tokens for none, and what spells the value for some
 abbrev pub opt_spells : {A : Type 0} → (A → List Terminal → Type 0) → Option A → List Terminal → Type 0
 opt_spells spells None ts = ts ≡ []
 opt_spells spells (Some a) ts = spells a ts
 
+-- what reads a value where the next token is of the first sorts
 abbrev pub opt_read : {A : Type 0} → List ℕ → (List Terminal → Read A) → List Terminal → Read (Option A)
 opt_read first read ts = if starts first ts then (read ts >>= λ x. Ok (Some x.0, x.1)) else Ok (None, ts)
 
+-- a form or nothing
 abbrev pub opt : {A : Type 0} → Form A → Form (Option A)
 opt f = record {
   first = f.first;
@@ -128,7 +137,7 @@ opt f = record {
   read = opt_read f.first f.read;
 }
 
--- any number of one form
+-- the tokens of each value, one after the other
 abbrev pub many_spell : {A : Type 0} → (A → List Terminal → Type 0) → List A → List Terminal → Type 0
 many_spell spells [] ts = ts ≡ []
 many_spell spells (a ∷ rest) ts = (u : List Terminal) × (v : List Terminal) × spells a u × many_spell spells rest v × (ts ≡ u ++ v)
@@ -138,9 +147,11 @@ abbrev pub many_from : {A : Type 0} → List ℕ → (List Terminal → Read A) 
 many_from first read zero ts = Ok ([], ts)
 many_from first read (suc n) ts = if starts first ts then (read ts >>= λ x. many_from first read n x.1 >>= λ y. Ok (x.0 ∷ y.0, y.1)) else Ok ([], ts)
 
+-- the same, with a number of turns that suffices
 unfoldable pub many_read : {A : Type 0} → List ℕ → (List Terminal → Read A) → List Terminal → Read (List A)
 many_read first read ts = many_from first read (length ts) ts
 
+-- any number of one form
 abbrev pub many : {A : Type 0} → Form A → Form (List A)
 many {A} f = record {
   first = f.first;
@@ -164,11 +175,12 @@ alt f g = record {
   read = λ ts. if starts f.first ts then f.read ts else g.read ts;
 }
 
--- the same tokens, for a value that is made of the other
+-- what reads a value and makes the other of it
 abbrev pub map_read : {A B : Type 0} → (A → B) → (List Terminal → Read A) → List Terminal → Read B
 map_read h read ts = read ts >>= λ x. Ok (h x.0, x.1)
 
 infixr 5 ◌<$>◌
+-- the same tokens, for a value that is made of the other
 abbrev pub ◌<$>◌ : {A B : Type 0} → (A → B) → Form A → Form B
 ◌<$>◌ {A} h f = record {
   first = f.first;
@@ -180,11 +192,12 @@ abbrev pub ◌<$>◌ : {A B : Type 0} → (A → B) → Form A → Form B
   read = map_read h f.read;
 }
 
--- a token of these sorts, which a limit refuses: it may begin the form, and no spelling has it
+-- no value, and a stop at the next token: its sort is refused, or it is a syntax fault
 abbrev pub refused_at : {A : Type 0} → List ℕ → List Terminal → Read A
 refused_at set [] = Err (record { fault = Syntax; at = 0 })
 refused_at set (t ∷ ts) = Err (record { fault = if among t.sort set then Refused t.sort else Syntax; at = t.at })
 
+-- a token of these sorts, which a limit refuses: it may begin the form, and no spelling has it
 abbrev pub refused : {A : Type 0} → List ℕ → Form A
 refused set = record {
   first = set;
@@ -196,10 +209,11 @@ refused set = record {
   read = refused_at set;
 }
 
--- at least one of a form
+-- what reads one, and then as many as there are
 abbrev pub some_read : {A : Type 0} → List ℕ → (List Terminal → Read A) → List Terminal → Read (List A)
 some_read first read = map_read (λ p. p.0 ∷ p.1) (seq_read read (many_read first read))
 
+-- at least one of a form
 abbrev pub some : {A : Type 0} → Form A → Form (List A)
 some f = (λ p. p.0 ∷ p.1) <$> seq f (many f)
 
@@ -211,6 +225,10 @@ declared first more empty f = record { first = first; more = more; empty = empty
 abbrev pub limited : {A : Type 0} → (List Terminal → Terminal → Type 0) → Form A → Form A
 limited breaks f = record { first = f.first; more = f.more; empty = f.empty; spells = f.spells; begins = f.begins; breaks = breaks; read = f.read }
 
+-- what is read takes a token at least
+abbrev pub Shortens : {A : Type 0} → (List Terminal → Read A) → Type 0
+Shortens {A} read = (ts : List Terminal) (a : A) (rest : List Terminal) → read ts ≡ Ok (a, rest) → length rest < length ts
+
 -- ---- whole texts: the last terminal stands for the end, or for the place where no token stands
 
 -- only the end of the text is left
@@ -218,13 +236,14 @@ abbrev pub only_end : List Terminal → Bool
 only_end [] = false
 only_end (t ∷ ts) = t.sort == end_of_text
 
+-- the value, where only the end of the text is left after it
 abbrev pub all_read : {A : Type 0} → (List Terminal → Read A) → List Terminal → Result A Stop
 all_read read ts = read ts >>= λ x. if only_end x.1 then Ok x.0 else Err (record { fault = Syntax; at = place x.1 })
 
 -- ---- where reading stops
 
 -- A syntax fault stands at a token with which the tokens before begin no spelling, and at the end where they are none.
--- A token that a limit refuses is one that breaks a limit behind the tokens before.
+-- A token that a limit refuses is one that breaks a limit after the tokens before.
 abbrev pub Stands : {A : Type 0} → Form A → Fault → List Terminal → Terminal → Type 0
 Stands {A} f Syntax before here = ¬ (f.begins (before ++ here ∷ [])) × (here.sort ≡ end_of_text → (a : A) → ¬ (f.spells a before))
 Stands f (Refused sort) before here = (sort ≡ here.sort) × f.breaks before here

@@ -2,21 +2,16 @@
 -- is an `Invocation` from the start. Sections 3.6 to 3.13 of the GraphQL specification, October 2021.
 use Rattle.std.specs.Prelude.{Bool, false, List, [], Option, None, map}
 use Rattle.std.specs.Option.{option_map}
-use Rattle.std.specs.Str.{bytes_eq}
-use Rattle.indexmap.specs.IndexMap.{insert_entry}
-use Rattle.gql_value.specs.declared.type_ref.TypeRef.{TypeRef}
-use Rattle.gql_value.specs.declared.const_value.ConstValue.{ConstValue}
-use Rattle.gql_value.specs.TypeRefs.{type_text}
-use Rattle.gql_value.specs.ConstValues.{value_text}
-use Rattle.gql_meta.specs.Caching.{no_hint}
-use Rattle.gql_meta.specs.Parts.{Text, Deprecated, not_deprecated, Invocation, InputValue, Field, EnumValue}
-
--- entries with a value under a name: an entry of that name is replaced at its place, and a new one goes last
-abbrev pub with_entry : {X : Type 0} → List (Text × X) → Text → X → List (Text × X)
-with_entry entries name value = insert_entry bytes_eq entries name value
+use Rattle.gql_text_values.specs.declared.type_ref.TypeRef.{TypeRef}
+use Rattle.gql_text_values.specs.declared.const_value.ConstValue.{ConstValue}
+use Rattle.gql_text_values.specs.TypeRefs.{type_text}
+use Rattle.gql_text_values.specs.ConstValues.{value_text}
+use Rattle.gql_registry_meta.specs.Caching.{no_hint}
+use Rattle.gql_registry_meta.specs.Parts.{Text, Deprecated, not_deprecated, Invocation, InputValue, Field, EnumValue, with_entry_in_place}
 
 -- ---- values of enums: section 3.9
 
+-- what is said of a value of an enum
 pub record EnumItemParts : Type 0 where
   pub name : Text
   pub description : Option Text
@@ -50,6 +45,7 @@ enum_item_meta item = record {
 
 -- ---- arguments and input fields: sections 3.6.1 and 3.10
 
+-- what is said of an argument or an input field
 pub record InputValueParts : Type 0 where
   pub name : Text
   pub ty : TypeRef
@@ -94,10 +90,11 @@ arguments_meta arguments = map (λ e. (e.0, input_value_meta e.1)) arguments
 
 -- the arguments with one more, under its name
 abbrev pub with_argument : List (Text × InputValueParts) → InputValueParts → List (Text × InputValueParts)
-with_argument arguments argument = with_entry arguments argument.name argument
+with_argument arguments argument = with_entry_in_place arguments argument.name argument
 
 -- ---- fields of objects and interfaces: section 3.6
 
+-- what is said of a field of an object or an interface
 pub record FieldParts : Type 0 where
   pub name : Text
   pub ty : TypeRef
@@ -154,6 +151,7 @@ field_meta field = record {
 
 -- ---- fields of subscriptions: section 3.3.1
 
+-- what is said of a field of a subscription
 pub record SubscriptionFieldParts : Type 0 where
   pub name : Text
   pub ty : TypeRef

@@ -1,11 +1,11 @@
 //! Uses of directives: section 2.12 of the GraphQL specification, October 2021.
 
 ghost use Rattle.std.specs.Prelude.{◌≡◌, [], IfOk, map};
-ghost use Rattle.gql_meta.specs.Views.{invocation_of, invocations_of};
-ghost use Rattle.gql_parts.specs.Builders.{with_entry};
-ghost use Rattle.gql_parts.specs.Views.{directive_use};
+ghost use Rattle.gql_registry_meta.specs.Views.{invocation_of, invocations_of};
+ghost use Rattle.gql_registry_meta.specs.Parts.{with_entry_in_place};
+ghost use Rattle.gql_parts.specs.BuilderViews.{directive_use};
 
-use gql_meta::{ConstValue, MetaDirectiveInvocation, OutOfMemory};
+use gql_registry_meta::{ConstValue, MetaDirectiveInvocation, OutOfMemory};
 use indexmap::IndexMap;
 use std::alloc::Global;
 
@@ -19,7 +19,8 @@ pub struct Directive {
 impl Directive {
     /// The use of the directive of that name, without arguments.
     pub fn new(alloc: Global, name: &str) -> Result<Directive, OutOfMemory>
-        ensures { IfOk result (λ directive. directive_use directive ≡ record { name = name.now; args = [] }) }
+        ensures { IfOk result (λ directive.
+            directive_use directive ≡ record { name = name.now; args = [] }) }
     {
         let invocation = MetaDirectiveInvocation {
             name: String::from_str(alloc, name)?,
@@ -29,10 +30,10 @@ impl Directive {
     }
 
     /// Gives an argument. One of that name is replaced at its place, and a new one goes last.
-    #[tactic(auto, using(gql_meta::proofs::Entries::entries_with_insertion))]
+    #[tactic(auto, using(gql_registry_meta::proofs::Entries::entries_with_insertion))]
     pub fn argument(mut self, name: &str, value: ConstValue) -> Result<Directive, OutOfMemory>
         ensures { IfOk result (λ directive. directive_use directive
-            ≡ record (directive_use self) { args = with_entry (directive_use self).args name.now value }) }
+            ≡ record (directive_use self) { args = with_entry_in_place (directive_use self).args name.now value }) }
     {
         let key = String::from_str(self.alloc, name)?;
         self.invocation.args.insert(key, value)?;
@@ -70,7 +71,8 @@ pub fn to_meta_directive_invocation(
     alloc: Global,
     directives: Vec<Directive>,
 ) -> Result<Vec<MetaDirectiveInvocation>, OutOfMemory>
-    ensures { IfOk result (λ invocations. invocations_of invocations ≡ map directive_use directives.items) }
+    ensures { IfOk result (λ invocations.
+        invocations_of invocations ≡ map directive_use directives.items) }
 {
     let mut invocations = Vec::new(alloc);
     for directive in directives {

@@ -2,14 +2,17 @@
 
 ghost use Rattle.std.specs.Prelude.{◌≡◌, ◌++◌, ◌∷◌, [], Some, true, IfOk, map};
 ghost use Rattle.std.specs.Option.{option_copied};
-ghost use Rattle.gql_meta.specs.Parts.{deprecated_for};
-ghost use Rattle.gql_meta.specs.Views.{text_of, enum_value_of};
+ghost use Rattle.gql_registry_meta.specs.Parts.{deprecated_for};
+ghost use Rattle.gql_registry_meta.specs.Views.{text_of, enum_value_of};
 ghost use Rattle.gql_parts.specs.Builders.{new_enum_item, enum_item_meta};
-ghost use Rattle.gql_parts.specs.Views.{enum_item_parts, directive_use};
+ghost use Rattle.gql_parts.specs.BuilderViews.{enum_item_parts, directive_use};
 
-use crate::copies::{copied_directives, copied_text, copied_texts, deprecated};
+use crate::deprecation::deprecated;
 use crate::directive::Directive;
-use gql_meta::{Deprecation, MetaDirectiveInvocation, MetaEnumValue, OutOfMemory};
+use gql_registry_meta::{
+    Deprecation, MetaDirectiveInvocation, MetaEnumValue, OutOfMemory, copy_invocations,
+    copy_optional, copy_texts, owned_texts,
+};
 use std::alloc::Global;
 
 /// A value of an enum.
@@ -71,7 +74,7 @@ impl EnumItem {
         ensures { IfOk result (λ item. enum_item_parts item
             ≡ record (enum_item_parts self) { tags = map text_of tags.now }) }
     {
-        self.tags = copied_texts(self.alloc, tags)?;
+        self.tags = owned_texts(self.alloc, tags)?;
         Ok(self)
     }
 
@@ -95,16 +98,17 @@ impl EnumItem {
 
     /// The value that is registered.
     pub fn meta(&self, alloc: Global) -> Result<MetaEnumValue, OutOfMemory>
-        ensures { IfOk result (λ value. enum_value_of value ≡ enum_item_meta (enum_item_parts self.now)) }
+        ensures { IfOk result (λ value.
+            enum_value_of value ≡ enum_item_meta (enum_item_parts self.now)) }
     {
         Ok(MetaEnumValue {
             name: String::from_str(alloc, self.name.as_str())?,
-            description: copied_text(alloc, &self.description)?,
+            description: copy_optional(&self.description)?,
             deprecation: self.deprecation.try_clone(alloc)?,
             visible: None,
             inaccessible: self.inaccessible,
-            tags: copied_texts(alloc, self.tags.as_slice())?,
-            directive_invocations: copied_directives(alloc, self.directives.as_slice())?,
+            tags: copy_texts(&self.tags)?,
+            directive_invocations: copy_invocations(&self.directives)?,
         })
     }
 }

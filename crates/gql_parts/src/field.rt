@@ -2,16 +2,19 @@
 
 ghost use Rattle.std.specs.Prelude.{◌≡◌, ◌++◌, ◌∷◌, [], Some, true, IfOk, map};
 ghost use Rattle.std.specs.Option.{option_copied};
-ghost use Rattle.gql_meta.specs.Parts.{deprecated_for};
-ghost use Rattle.gql_meta.specs.Views.{text_of, entries_of, field_of};
+ghost use Rattle.gql_registry_meta.specs.Parts.{deprecated_for};
+ghost use Rattle.gql_registry_meta.specs.Views.{text_of, field_of};
 ghost use Rattle.gql_parts.specs.Builders.{new_field, field_meta, with_argument};
-ghost use Rattle.gql_parts.specs.Views.{field_parts, input_value_parts, directive_use};
+ghost use Rattle.gql_parts.specs.BuilderViews.{field_parts, input_value_parts, inputs_built, directive_use};
 
-use crate::copies::{copied_directives, copied_text, copied_texts, deprecated};
+use crate::deprecation::deprecated;
 use crate::directive::Directive;
 use crate::input_value::{InputValue, arguments_meta, set_argument};
-use gql_meta::{CacheControl, Deprecation, MetaDirectiveInvocation, MetaField, OutOfMemory};
-use gql_value::TypeRef;
+use gql_registry_meta::{
+    CacheControl, Deprecation, MetaDirectiveInvocation, MetaField, OutOfMemory, copy_invocations,
+    copy_optional, copy_texts, owned_texts,
+};
+use gql_text_values::TypeRef;
 use indexmap::IndexMap;
 use std::alloc::Global;
 use std::marker::PhantomData;
@@ -86,7 +89,8 @@ impl<Owner: Drop> FieldBuilder<Owner> {
 
     /// Describes it. The last call counts.
     pub fn description(mut self, text: &str) -> Result<FieldBuilder<Owner>, OutOfMemory>
-        ensures { IfOk result (λ field. field_parts field ≡ record (field_parts self) { description = Some text.now }) }
+        ensures { IfOk result (λ field. field_parts field
+            ≡ record (field_parts self) { description = Some text.now }) }
     {
         self.description = Some(String::from_str(self.alloc, text)?);
         Ok(self)
@@ -120,7 +124,8 @@ impl<Owner: Drop> FieldBuilder<Owner> {
 
     /// Names the external fields that it provides, for federation. The last call counts.
     pub fn provides(mut self, fields: &str) -> Result<FieldBuilder<Owner>, OutOfMemory>
-        ensures { IfOk result (λ field. field_parts field ≡ record (field_parts self) { provides = Some fields.now }) }
+        ensures { IfOk result (λ field. field_parts field
+            ≡ record (field_parts self) { provides = Some fields.now }) }
     {
         self.provides = Some(String::from_str(self.alloc, fields)?);
         Ok(self)
@@ -144,9 +149,10 @@ impl<Owner: Drop> FieldBuilder<Owner> {
 
     /// Tags it, for federation. The last call counts.
     pub fn tags(mut self, tags: &[String]) -> Result<FieldBuilder<Owner>, OutOfMemory>
-        ensures { IfOk result (λ field. field_parts field ≡ record (field_parts self) { tags = map text_of tags.now }) }
+        ensures { IfOk result (λ field. field_parts field
+            ≡ record (field_parts self) { tags = map text_of tags.now }) }
     {
-        self.tags = copied_texts(self.alloc, tags)?;
+        self.tags = owned_texts(self.alloc, tags)?;
         Ok(self)
     }
 
@@ -186,7 +192,7 @@ impl<Owner: Drop> FieldBuilder<Owner> {
 
     /// Its arguments, each under its name and in the order in which they came: section 3.6.1.
     pub fn arguments(&self) -> &IndexMap<String, InputValue>
-        ensures { entries_of input_value_parts result.now.entries ≡ (field_parts self.now).arguments }
+        ensures { inputs_built result.now ≡ (field_parts self.now).arguments }
     {
         &self.arguments
     }
@@ -197,20 +203,20 @@ impl<Owner: Drop> FieldBuilder<Owner> {
     {
         Ok(MetaField {
             name: String::from_str(alloc, self.name.as_str())?,
-            description: copied_text(alloc, &self.description)?,
+            description: copy_optional(&self.description)?,
             args: arguments_meta(alloc, &self.arguments)?,
             ty: format!(in alloc; "{}", self.ty)?,
             deprecation: self.deprecation.try_clone(alloc)?,
             cache_control: CacheControl::default(),
             external: self.external,
-            requires_fields: copied_text(alloc, &self.requires_fields)?,
-            provides: copied_text(alloc, &self.provides)?,
+            requires_fields: copy_optional(&self.requires_fields)?,
+            provides: copy_optional(&self.provides)?,
             visible: None,
             shareable: self.shareable,
             inaccessible: self.inaccessible,
-            tags: copied_texts(alloc, self.tags.as_slice())?,
-            override_from: copied_text(alloc, &self.override_from)?,
-            directive_invocations: copied_directives(alloc, self.directives.as_slice())?,
+            tags: copy_texts(&self.tags)?,
+            override_from: copy_optional(&self.override_from)?,
+            directive_invocations: copy_invocations(&self.directives)?,
             requires_scopes: Vec::new(alloc),
         })
     }

@@ -2,17 +2,20 @@
 
 ghost use Rattle.std.specs.Prelude.{◌≡◌, ◌++◌, ◌∷◌, [], Some, true, IfOk, OnOk, IsOkAnd, map};
 ghost use Rattle.std.specs.Option.{option_map, option_copied};
-ghost use Rattle.gql_value.specs.ConstValues.{value_text};
-ghost use Rattle.gql_meta.specs.Parts.{deprecated_for};
-ghost use Rattle.gql_meta.specs.Views.{text_of, entries_of, input_value_of};
+ghost use Rattle.gql_text_values.specs.ConstValues.{value_text};
+ghost use Rattle.gql_registry_meta.specs.Parts.{deprecated_for, with_entry_in_place};
+ghost use Rattle.gql_registry_meta.specs.Views.{text_of, input_value_of, inputs_in};
 ghost use Rattle.gql_parts.specs.Builders.{new_input_value, input_value_meta, arguments_meta};
-ghost use Rattle.gql_parts.specs.Builders.{with_entry, with_argument};
-ghost use Rattle.gql_parts.specs.Views.{input_value_parts, directive_use};
+ghost use Rattle.gql_parts.specs.Builders.{with_argument};
+ghost use Rattle.gql_parts.specs.BuilderViews.{input_value_parts, inputs_built, directive_use};
 
-use crate::copies::{copied_directives, copied_text, copied_texts, deprecated};
+use crate::deprecation::deprecated;
 use crate::directive::Directive;
-use gql_meta::{ConstValue, Deprecation, MetaDirectiveInvocation, MetaInputValue, OutOfMemory};
-use gql_value::TypeRef;
+use gql_registry_meta::{
+    ConstValue, Deprecation, MetaDirectiveInvocation, MetaInputValue, OutOfMemory,
+    copy_invocations, copy_optional, copy_texts, owned_texts,
+};
+use gql_text_values::TypeRef;
 use indexmap::IndexMap;
 use std::alloc::Global;
 
@@ -77,7 +80,8 @@ impl InputValue {
 
     /// Marks it as inaccessible, for federation.
     pub fn inaccessible(mut self) -> InputValue
-        ensures { input_value_parts result ≡ record (input_value_parts self) { inaccessible = true } }
+        ensures { input_value_parts result
+            ≡ record (input_value_parts self) { inaccessible = true } }
     {
         self.inaccessible = true;
         self
@@ -88,7 +92,7 @@ impl InputValue {
         ensures { IfOk result (λ input. input_value_parts input
             ≡ record (input_value_parts self) { tags = map text_of tags.now }) }
     {
-        self.tags = copied_texts(self.alloc, tags)?;
+        self.tags = owned_texts(self.alloc, tags)?;
         Ok(self)
     }
 
@@ -126,19 +130,20 @@ impl InputValue {
 
     /// The input value that is registered. Its type is the text of `ty`, and its default that of `ConstValue::text`.
     pub fn meta(&self, alloc: Global) -> Result<MetaInputValue, OutOfMemory>
-        ensures { IfOk result (λ input. input_value_of input ≡ input_value_meta (input_value_parts self.now)) }
+        ensures { IfOk result (λ input.
+            input_value_of input ≡ input_value_meta (input_value_parts self.now)) }
     {
         Ok(MetaInputValue {
             name: String::from_str(alloc, self.name.as_str())?,
-            description: copied_text(alloc, &self.description)?,
+            description: copy_optional(&self.description)?,
             ty: format!(in alloc; "{}", self.ty)?,
             deprecation: self.deprecation.try_clone(alloc)?,
             default_value: default_text(alloc, &self.default_value)?,
             visible: None,
             inaccessible: self.inaccessible,
-            tags: copied_texts(alloc, self.tags.as_slice())?,
+            tags: copy_texts(&self.tags)?,
             is_secret: false,
-            directive_invocations: copied_directives(alloc, self.directives.as_slice())?,
+            directive_invocations: copy_invocations(&self.directives)?,
         })
     }
 }
@@ -154,28 +159,28 @@ fn default_text(alloc: Global, value: &Option<ConstValue>) -> Result<Option<Stri
 }
 
 /// Registers an argument under a name.
-#[tactic(auto, using(gql_meta::proofs::Entries::entries_with_insertion))]
+#[tactic(auto, using(gql_registry_meta::proofs::Entries::entries_with_insertion))]
 fn put_argument_meta(
     alloc: Global,
     args: &mut IndexMap<String, MetaInputValue>,
     name: &str,
     argument: &InputValue,
 ) -> Result<(), OutOfMemory>
-    ensures { OnOk result (entries_of input_value_of args.new.entries ≡ with_entry
-        (entries_of input_value_of args.old.entries) name.now (input_value_meta (input_value_parts argument.now))) }
+    ensures { OnOk result (inputs_in args.new ≡ with_entry_in_place
+        (inputs_in args.old) name.now (input_value_meta (input_value_parts argument.now))) }
 {
     let key = String::from_str(alloc, name)?;
     args.insert(key, argument.meta(alloc)?)?;
     Ok(())
 }
 
-/// The arguments that are registered, each under its name and in their order.
-pub(crate) fn arguments_meta(
+/// The arguments or input fields that are registered, each under its name and in their order.
+pub fn arguments_meta(
     alloc: Global,
     arguments: &IndexMap<String, InputValue>,
 ) -> Result<IndexMap<String, MetaInputValue>, OutOfMemory>
-    ensures { IfOk result (λ args. entries_of input_value_of args.entries
-        ≡ arguments_meta (entries_of input_value_parts arguments.now.entries)) }
+    ensures { IfOk result (λ args.
+        inputs_in args ≡ arguments_meta (inputs_built arguments.now)) }
 {
     let mut args = IndexMap::new(alloc);
     for (name, argument) in arguments {
@@ -187,14 +192,14 @@ pub(crate) fn arguments_meta(
 }
 
 /// The arguments with one more: one of its name is replaced at its place, and a new one goes last.
-#[tactic(auto, using(gql_meta::proofs::Entries::entries_with_insertion))]
+#[tactic(auto, using(gql_registry_meta::proofs::Entries::entries_with_insertion))]
 pub(crate) fn set_argument(
     alloc: Global,
     arguments: &mut IndexMap<String, InputValue>,
     argument: InputValue,
 ) -> Result<(), OutOfMemory>
-    ensures { OnOk result (entries_of input_value_parts arguments.new.entries
-        ≡ with_argument (entries_of input_value_parts arguments.old.entries) (input_value_parts argument)) }
+    ensures { OnOk result (inputs_built arguments.new
+        ≡ with_argument (inputs_built arguments.old) (input_value_parts argument)) }
 {
     let key = String::from_str(alloc, argument.name())?;
     arguments.insert(key, argument)?;

@@ -2,18 +2,21 @@
 //! calls, and `meta` answers the part of a schema that is registered for it.
 #![tactic(auto)]
 
-mod copies;
+mod deprecation;
 mod directive;
 mod enum_item;
 mod field;
 mod input_value;
 mod subscription_field;
-#[cfg(test)]
-mod tests;
 
 pub use directive::{Directive, to_meta_directive_invocation};
 pub use enum_item::EnumItem;
 pub use field::{Field, FieldBuilder, InterfaceField, OfInterface, OfObject};
-pub use gql_meta::OutOfMemory;
-pub use input_value::InputValue;
+pub use gql_registry_meta::{
+    ConstValue, MetaDirectiveInvocation, MetaEnumValue, MetaField, MetaInputValue, OutOfMemory,
+    TypeRef,
+};
+pub use gql_text_lexer::{Name, Number};
+pub use input_value::{InputValue, arguments_meta};
+pub use sqlite_items::{Boxed, Items};
 pub use subscription_field::SubscriptionField;

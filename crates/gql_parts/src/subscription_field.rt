@@ -2,15 +2,15 @@
 
 ghost use Rattle.std.specs.Prelude.{◌≡◌, Some, IfOk};
 ghost use Rattle.std.specs.Option.{option_copied};
-ghost use Rattle.gql_meta.specs.Parts.{deprecated_for};
-ghost use Rattle.gql_meta.specs.Views.{entries_of, field_of};
+ghost use Rattle.gql_registry_meta.specs.Parts.{deprecated_for};
+ghost use Rattle.gql_registry_meta.specs.Views.{field_of};
 ghost use Rattle.gql_parts.specs.Builders.{new_subscription_field, subscription_field_meta, with_argument};
-ghost use Rattle.gql_parts.specs.Views.{subscription_field_parts, input_value_parts};
+ghost use Rattle.gql_parts.specs.BuilderViews.{subscription_field_parts, input_value_parts, inputs_built};
 
-use crate::copies::{copied_text, deprecated};
+use crate::deprecation::deprecated;
 use crate::input_value::{InputValue, arguments_meta, set_argument};
-use gql_meta::{CacheControl, Deprecation, MetaField, OutOfMemory};
-use gql_value::TypeRef;
+use gql_registry_meta::{CacheControl, Deprecation, MetaField, OutOfMemory, copy_optional};
+use gql_text_values::TypeRef;
 use indexmap::IndexMap;
 use std::alloc::Global;
 
@@ -28,7 +28,8 @@ pub struct SubscriptionField {
 impl SubscriptionField {
     /// The field of that name and type, of which no more is said.
     pub fn new(alloc: Global, name: &str, ty: TypeRef) -> Result<SubscriptionField, OutOfMemory>
-        ensures { IfOk result (λ field. subscription_field_parts field ≡ new_subscription_field name.now ty) }
+        ensures { IfOk result (λ field.
+            subscription_field_parts field ≡ new_subscription_field name.now ty) }
     {
         Ok(SubscriptionField {
             alloc,
@@ -42,9 +43,10 @@ impl SubscriptionField {
 
     /// Gives it an argument. One of that name is replaced at its place, and a new one goes last.
     pub fn argument(mut self, input_value: InputValue) -> Result<SubscriptionField, OutOfMemory>
-        ensures { IfOk result (λ field. subscription_field_parts field ≡ record (subscription_field_parts self) {
-          arguments = with_argument (subscription_field_parts self).arguments (input_value_parts input_value);
-        }) }
+        ensures { IfOk result (λ field. subscription_field_parts field
+            ≡ record (subscription_field_parts self) {
+              arguments = with_argument (subscription_field_parts self).arguments (input_value_parts input_value);
+            }) }
     {
         set_argument(self.alloc, &mut self.arguments, input_value)?;
         Ok(self)
@@ -84,18 +86,19 @@ impl SubscriptionField {
 
     /// Its arguments, each under its name and in the order in which they came: section 3.6.1.
     pub fn arguments(&self) -> &IndexMap<String, InputValue>
-        ensures { entries_of input_value_parts result.now.entries ≡ (subscription_field_parts self.now).arguments }
+        ensures { inputs_built result.now ≡ (subscription_field_parts self.now).arguments }
     {
         &self.arguments
     }
 
     /// The field that is registered. Its type is the text of `ty`.
     pub fn meta(&self, alloc: Global) -> Result<MetaField, OutOfMemory>
-        ensures { IfOk result (λ field. field_of field ≡ subscription_field_meta (subscription_field_parts self.now)) }
+        ensures { IfOk result (λ field.
+            field_of field ≡ subscription_field_meta (subscription_field_parts self.now)) }
     {
         Ok(MetaField {
             name: String::from_str(alloc, self.name.as_str())?,
-            description: copied_text(alloc, &self.description)?,
+            description: copy_optional(&self.description)?,
             args: arguments_meta(alloc, &self.arguments)?,
             ty: format!(in alloc; "{}", self.ty)?,
             deprecation: self.deprecation.try_clone(alloc)?,

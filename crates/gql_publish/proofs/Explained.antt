@@ -1,23 +1,23 @@
 -- What a trouble tells, from what the publisher answered.
 use Rattle.std.proofs.Common.{◌≡◌, ◌++◌, ◌∷◌, [], List, ℕ, Result, Ok, Err, string_bytes, refl, subst}
 use Rattle.std.specs.Prelude.{IsSomeAnd, Some, None, Option}
-use Rattle.gql_meta.specs.Parts.{Text}
+use Rattle.gql_registry_meta.specs.Parts.{Text}
 use Rattle.gql_text.specs.declared.document.Document.{Document}
 use Rattle.gql_publish.specs.declared.error.PublishError.{PublishError}
 use Rattle.gql_publish.specs.declared.error.PublishError.TheVariants as publish_error
 use Rattle.gql_publish.specs.declared.program.Trouble.{Trouble}
 use Rattle.gql_publish.specs.declared.program.Trouble.TheVariants as trouble
-use Rattle.gql_rules.specs.Faults.{Fault}
+use Rattle.gql_check_rules.specs.Faults.{Fault}
 use Rattle.gql_publish.specs.View.{view_of}
 use Rattle.gql_publish.specs.Spelling.{spell}
 use Rattle.gql_publish.specs.Verdict.{Refusal, unreadable, not_yet, broken, HasVerdict}
 use Rattle.gql_text.specs.Verdict.{Spells}
-use Rattle.gql_syntax.specs.declared.error.ReadError.TheVariants as read_error
-use Rattle.gql_dynamic.specs.Errors.{fault_of, told}
+use Rattle.gql_text_syntax.specs.declared.error.ReadError.TheVariants as read_error
+use Rattle.gql_dynamic.specs.Errors.{fault_of, fault_text}
 use Rattle.gql_publish.specs.Errors.{Refuses, refusal_line}
 use Rattle.gql_publish.specs.Outcome.{outcome}
 use Rattle.gql_publish.proofs.Outcomes.{outcome-valid}
-use Rattle.gql_publish.specs.Troubles.{IsTroubleWith, IsRefusalLine, TellsError}
+use Rattle.gql_publish.specs.Troubles.{IsTroubleWith, IsRefusalLine, ReportsError}
 
 -- the publisher refused the bytes, whatever document they spell
 abbrev Only : List ℕ → PublishError → Type 0
@@ -49,7 +49,7 @@ none_valid bytes error n only document h =
     (subst (λ (r : Result Text Refusal). Refuses (λ refusal. r ≡ Err refusal) error) (outcome-valid document.definitions h.0.plain h.1) (only document h.0.spelled))
 
 -- a broken rule that is told
-rule_told : (bytes : List ℕ) (o : Option Fault) (line : Text) → IsSomeAnd o (λ fault. HasVerdict bytes (Err (broken fault))) → line ≡ told o ++ 10 ∷ []
+rule_told : (bytes : List ℕ) (o : Option Fault) (line : Text) → IsSomeAnd o (λ fault. HasVerdict bytes (Err (broken fault))) → line ≡ fault_text o ++ 10 ∷ []
     → (refusal : Refusal) × HasVerdict bytes (Err refusal) × (line ≡ refusal_line refusal ++ 10 ∷ [])
 rule_told bytes (Some fault) line h e = (broken fault, h, e)
 rule_told bytes None line h e = absurd h
@@ -71,7 +71,7 @@ line_told bytes publish_error.OutOfMemory line h e = absurd e
 not_memory : (error : PublishError) (line : Text) → IsRefusalLine error line → error ≡ publish_error.OutOfMemory → ⊥
 not_memory error line e is = subst (λ (x : PublishError). IsRefusalLine x line) is e
 
-pub explained : (bytes : List ℕ) (error : PublishError) (t : Trouble) → Refuses (λ refusal. HasVerdict bytes (Err refusal)) error → Only bytes error → TellsError error t → IsTroubleWith bytes t
+pub explained : (bytes : List ℕ) (error : PublishError) (t : Trouble) → Refuses (λ refusal. HasVerdict bytes (Err refusal)) error → Only bytes error → ReportsError error t → IsTroubleWith bytes t
 explained bytes error (trouble.Refused line) h only e =
     let told = line_told bytes error (string_bytes line) h e in
     (told.0, told.1, none_valid bytes error (not_memory error (string_bytes line) e) only, told.2)

@@ -2,7 +2,7 @@
 use Rattle.std.proofs.Common.{◌≡◌, ℕ, suc, ◌+◌, ◌<◌, List, ◌∷◌, length, drop, get_or, ap, sym, add-one, drop-cons}
 use Rattle.std.specs.Prelude.{Option, Bool, ◌&&◌}
 use Rattle.std.specs.List.{list_all}
-use Rattle.gql_rules.specs.Tests.{or_else, first_in}
+use Rattle.gql_check_rules.specs.Tests.{or_else, first_in}
 
 -- the member at a place, and those behind it
 pub drop_step : {X : Type 0} (xs : List X) (i : ℕ) (x : X) → i < length xs → x ≡ get_or xs i x → drop i xs ≡ x ∷ drop (i + 1) xs

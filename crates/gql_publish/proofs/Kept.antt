@@ -3,28 +3,31 @@ use Rattle.std.proofs.Common.{◌≡◌, Bool, true, false, cond, List, [], ◌�
 use Rattle.std.specs.Prelude.{not}
 use Rattle.std.specs.List.{AllByRecursion, list_all}
 use Rattle.gql_grammar.specs.Form.{one, many}
-use Rattle.gql_lexer.specs.Forms.{IsName}
-use Rattle.gql_readback.proofs.Texts.{Keeps, Spelled}
-use Rattle.gql_readback.proofs.Keeps.{any, name_keeps, spelled_keeps, refused_keeps, seq_keeps, map_keeps, alt_keeps, opt_keeps, many_keeps, some_keeps, AllIn, document_keeps}
-use Rattle.gql_meta.specs.Parts.{Text}
-use Rattle.gql_syntax.specs.Documents.{SpelledBy}
-use Rattle.gql_syntax.specs.Grammar as g
-use Rattle.gql_syntax.specs.Reads.{or_none}
-use Rattle.gql_syntax.specs.Sorts as s
-use Rattle.gql_syntax.specs.Values.{key}
-use Rattle.gql_syntax.specs.declared.syntax.PlacedName.{PlacedName}
-use Rattle.gql_syntax.specs.declared.syntax.Description.{Description}
-use Rattle.gql_syntax.specs.declared.syntax.Field.{Field}
-use Rattle.gql_syntax.specs.declared.syntax.Root.{Root}
-use Rattle.gql_syntax.specs.declared.syntax.Kind.{Kind}
-use Rattle.gql_syntax.specs.declared.syntax.Kind.TheVariants as kinds
-use Rattle.gql_syntax.specs.declared.syntax.WrittenDefinition.{WrittenDefinition}
-use Rattle.gql_text.specs.DocumentOf.{definition_of, kind_of, field_of, root_line_of}
-use Rattle.gql_text.specs.Owners.{is_reserved, reserved, subscription_faults, object_like_faults, definition_faults, kind_faults}
+use Rattle.gql_text_lexer.specs.Forms.{IsName}
+use Rattle.gql_sdl_readback.proofs.Texts.{Keeps, Spelled}
+use Rattle.gql_sdl_readback.proofs.Keeps.{any, name_keeps, spelled_keeps, refused_keeps, seq_keeps, map_keeps, alt_keeps, opt_keeps, many_keeps, some_keeps, AllIn, document_keeps}
+use Rattle.gql_registry_meta.specs.Parts.{Text}
+use Rattle.gql_text_syntax.specs.Documents.{SpelledBy}
+use Rattle.gql_text_syntax.specs.Grammar as g
+use Rattle.gql_text_syntax.specs.Reads.{or_none}
+use Rattle.gql_text_syntax.specs.Sorts as s
+use Rattle.gql_text_syntax.specs.Sorts.{code, only, token}
+use Rattle.gql_text_syntax.specs.declared.sort.Sort.TheVariants.{CloseBrace, Colon, OpenBrace, WordExtend, WordScalar, WordSchema, WordType}
+use Rattle.gql_text_syntax.specs.Values.{key}
+use Rattle.gql_text_syntax.specs.declared.syntax.PlacedName.{PlacedName}
+use Rattle.gql_text_syntax.specs.declared.syntax.Description.{Description}
+use Rattle.gql_text_syntax.specs.declared.syntax.Field.{Field}
+use Rattle.gql_text_syntax.specs.declared.syntax.Root.{Root}
+use Rattle.gql_text_syntax.specs.declared.syntax.Kind.{Kind}
+use Rattle.gql_text_syntax.specs.declared.syntax.Kind.TheVariants as kinds
+use Rattle.gql_text_syntax.specs.declared.syntax.WrittenDefinition.{WrittenDefinition}
+use Rattle.gql_text.specs.DocumentOf.{definition_of, kind_of, field_def_of, root_line_of}
+use Rattle.gql_text_lexer.specs.Forms.{is_reserved}
+use Rattle.gql_text.specs.Owners.{reserved, subscription_faults, object_like_faults, definition_faults, kind_faults}
 use Rattle.gql_text.specs.WrittenRoots.{is_root}
 use Rattle.gql_text.specs.declared.document.FieldDef.{FieldDef}
 use Rattle.gql_publish.specs.Names.{are_distinct}
-use Rattle.gql_publish.specs.Plain.{is_plain_field, is_plain_definition, is_query_line, first_root, query_of, field_names}
+use Rattle.gql_publish.specs.Plain.{is_plain_field, is_plain_definition, is_query_line, first_root, root_query_name, field_names}
 use Rattle.gql_publish.proofs.Choices.{both, not_false}
 use Rattle.gql_publish.proofs.Parts.{field_name, plain_field, plain_of, plains, IsTypeName, IsSoundField, IsSound}
 
@@ -45,12 +48,12 @@ key_keeps = map_keeps name_keeps (λ t h. h)
 
 field_keeps : Keeps g.field KeptField
 unfolding g.field
-field_keeps = map_keeps (seq_keeps (any g.description) (seq_keeps key_keeps (seq_keeps (any (g.arguments g.input_value)) (seq_keeps (any (one (s.colon ∷ []))) (seq_keeps (spelled_keeps g.type_ref) (any (many g.directive_use)))))))
+field_keeps = map_keeps (seq_keeps (any g.description) (seq_keeps key_keeps (seq_keeps (any (g.arguments g.input_value)) (seq_keeps (any (token Colon)) (seq_keeps (spelled_keeps g.type_ref) (any (many g.directive_use)))))))
     (λ p h. (h.1.0, h.1.1.1.1.0))
 
 braced_keeps : Keeps (g.braced g.field) (AllByRecursion KeptField)
 unfolding g.braced
-braced_keeps = map_keeps (seq_keeps (any (one (s.open_brace ∷ []))) (seq_keeps (many_keeps field_keeps) (any (one (s.close_brace ∷ []))))) (λ p h. h.1.0)
+braced_keeps = map_keeps (seq_keeps (any (token OpenBrace)) (seq_keeps (many_keeps field_keeps) (any (token CloseBrace)))) (λ p h. h.1.0)
 
 body_keeps : Keeps (g.body g.field) (AllByRecursion KeptField)
 unfolding g.body
@@ -62,7 +65,7 @@ body_keeps = map_keeps (opt_keeps braced_keeps) by
 
 scalar_keeps : Keeps g.scalar KeptKind
 unfolding g.scalar
-scalar_keeps = map_keeps (seq_keeps (any (one (s.word_scalar ∷ []))) (seq_keeps key_keeps (any (many g.directive_use)))) (λ p h. h.1.0)
+scalar_keeps = map_keeps (seq_keeps (any (token WordScalar)) (seq_keeps key_keeps (any (many g.directive_use)))) (λ p h. h.1.0)
 
 object_like_keeps : Keeps g.object_like (λ o. IsName o.key.name × AllByRecursion KeptField o.fields)
 unfolding g.object_like
@@ -70,19 +73,19 @@ object_like_keeps = map_keeps (seq_keeps key_keeps (seq_keeps (opt_keeps (any g.
 
 object_keeps : Keeps g.object KeptKind
 unfolding g.object
-object_keeps = map_keeps (seq_keeps (any (one (s.word_type ∷ []))) object_like_keeps) (λ p h. h.1)
+object_keeps = map_keeps (seq_keeps (any (token WordType)) object_like_keeps) (λ p h. h.1)
 
 root_keeps : Keeps g.root (λ r. IsName r.name)
 unfolding g.root
-root_keeps = map_keeps (seq_keeps (any (one s.operations)) (seq_keeps (any (one (s.colon ∷ []))) name_keeps)) (λ p h. h.1.1)
+root_keeps = map_keeps (seq_keeps (any (one s.operations)) (seq_keeps (any (token Colon)) name_keeps)) (λ p h. h.1.1)
 
 roots_keep : Keeps g.roots (AllByRecursion (λ r. IsName r.name))
 unfolding g.roots
-roots_keep = map_keeps (seq_keeps (any (one (s.open_brace ∷ []))) (seq_keeps (some_keeps root_keeps) (any (one (s.close_brace ∷ []))))) (λ p h. h.1.0)
+roots_keep = map_keeps (seq_keeps (any (token OpenBrace)) (seq_keeps (some_keeps root_keeps) (any (token CloseBrace)))) (λ p h. h.1.0)
 
 schema_keeps : Keeps g.schema_block KeptKind
 unfolding g.schema_block
-schema_keeps = map_keeps (seq_keeps (any (one (s.word_schema ∷ []))) (seq_keeps (any (many g.directive_use)) roots_keep)) (λ p h. h.1.1)
+schema_keeps = map_keeps (seq_keeps (any (token WordSchema)) (seq_keeps (any (many g.directive_use)) roots_keep)) (λ p h. h.1.1)
 
 interface_keeps : Keeps g.«interface» KeptKind
 unfolding g.«interface»
@@ -121,7 +124,7 @@ described_keeps = map_keeps (seq_keeps (any g.description) kind_keeps) (λ p h. 
 
 extension_keeps : Keeps g.extension Kept
 unfolding g.extension
-extension_keeps = refused_keeps (s.word_extend ∷ [])
+extension_keeps = refused_keeps (only WordExtend)
 
 definition_keeps : Keeps g.definition Kept
 unfolding g.definition
@@ -155,12 +158,12 @@ unreserved key e = by (is_reserved key.name) _ e
 type_name : (key : PlacedName) (known : Bool) → IsName key.name → reserved key ≡ [] → not known ≡ true → known ≡ false
 type_name key known n r k = not_false known k
 
-sound_fields : (fs : List Field) → AllByRecursion KeptField fs → list_all is_plain_field (map field_of fs) ≡ true → AllByRecursion IsSoundField (map plain_field (map field_of fs))
+sound_fields : (fs : List Field) → AllByRecursion KeptField fs → list_all is_plain_field (map field_def_of fs) ≡ true → AllByRecursion IsSoundField (map plain_field (map field_def_of fs))
 sound_fields [] k e = tt
 sound_fields (f ∷ fs) k e =
-    let here = both (is_plain_field (field_of f)) (list_all is_plain_field (map field_of fs)) e in
+    let here = both (is_plain_field (field_def_of f)) (list_all is_plain_field (map field_def_of fs)) e in
     let last = both _ (not _) here.0 in
-    (record { name = k.0.0; ty = k.0.1; free = not_false _ last.1 }, sound_fields fs k.1 here.1)
+    (record { name = k.0.0; tree = f.ty; same = refl; ty = k.0.1; free = not_false _ last.1 }, sound_fields fs k.1 here.1)
 
 pub names_of_fields : (fs : List FieldDef) → field_names fs ≡ map field_name (map plain_field fs)
 names_of_fields [] = refl
@@ -174,11 +177,11 @@ module _ (root : Option Text) where
       (record { name = k; free = unreserved key (left_empty (reserved key) _ f); known = not_false _ (both _ (not _) p).1 }, a)
   sound_kind d (kinds.Object o) more k f p a =
       let faults = left_empty (reserved o.key) _ (left_empty (object_like_faults o) (cond (is_root root o.key.name) (subscription_faults o) []) f) in
-      let distinct = both _ (are_distinct (field_names (map field_of o.fields))) p in
-      let fields = both _ (list_all is_plain_field (map field_of o.fields)) distinct.0 in
+      let distinct = both _ (are_distinct (field_names (map field_def_of o.fields))) p in
+      let fields = both _ (list_all is_plain_field (map field_def_of o.fields)) distinct.0 in
       let bare = (both _ _ fields.0).0 in
       let head : IsTypeName o.key.name = record { name = k.0; free = unreserved o.key faults; known = not_false _ (both _ (not _) bare).1 } in
-      ((head, sound_fields o.fields k.1 fields.1, subst (λ (ns : List Text). are_distinct ns ≡ true) (names_of_fields (map field_of o.fields)) distinct.1), a)
+      ((head, sound_fields o.fields k.1 fields.1, subst (λ (ns : List Text). are_distinct ns ≡ true) (names_of_fields (map field_def_of o.fields)) distinct.1), a)
   sound_kind d (kinds.Interface o) more k f p a = absurd cc
   sound_kind d (kinds.Union key uses members) more k f p a = absurd cc
   sound_kind d (kinds.Enum key uses values) more k f p a = absurd cc
@@ -196,13 +199,13 @@ root_name [] k p = absurd cc
 root_name (r ∷ roots) k p = k.0
 
 -- the name of the query root is a name
-pub query_name : (tree : List WrittenDefinition) → AllByRecursion Kept tree → list_all is_plain_definition (map definition_of tree) ≡ true → IsName (query_of (map definition_of tree))
+pub query_name : (tree : List WrittenDefinition) → AllByRecursion Kept tree → list_all is_plain_definition (map definition_of tree) ≡ true → IsName (root_query_name (map definition_of tree))
 query_name [] k p = (refl, refl)
 query_name (d ∷ tree) k p =
     let here = both (is_plain_definition (definition_of d)) (list_all is_plain_definition (map definition_of tree)) p in
     by d.kind k.0 here.0 (query_name tree k.1 here.1)
   where
-    by : (kind : Kind) → KeptKind kind → is_plain_definition (kind_of d.description kind) ≡ true → IsName (query_of (map definition_of tree)) → IsName (query_of (kind_of d.description kind ∷ map definition_of tree))
+    by : (kind : Kind) → KeptKind kind → is_plain_definition (kind_of d.description kind) ≡ true → IsName (root_query_name (map definition_of tree)) → IsName (root_query_name (kind_of d.description kind ∷ map definition_of tree))
     by (kinds.Schema at uses roots) k p more = root_name roots k p
     by (kinds.Scalar key uses) k p more = more
     by (kinds.Object o) k p more = more

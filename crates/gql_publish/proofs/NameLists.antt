@@ -4,17 +4,11 @@ use Rattle.std.proofs.lemmas.List.{append-nil}
 use Rattle.std.specs.Prelude.{◌&&◌}
 use Rattle.std.specs.List.{list_any, flat_map}
 use Rattle.std.specs.Str.{bytes_eq}
-use Rattle.gql_meta.specs.Parts.{Text, is_among}
-use Rattle.gql_publish.specs.Names.{are_new, texts_in}
+use Rattle.gql_registry_meta.specs.Parts.{Text, is_among}
+use Rattle.gql_registry_meta.specs.Views.{texts_in}
+use Rattle.gql_registry_meta.proofs.Borrowed.{texts_have, texts_last}
+use Rattle.gql_publish.specs.Names.{are_new}
 use Rattle.gql_publish.proofs.Firsts.{drop_step}
-
-pub texts_have : (t : Text) (ks : List (Bor Text)) → list_any (λ k. bytes_eq t k.now) ks ≡ is_among t (texts_in ks)
-texts_have t [] = refl
-texts_have t (k ∷ ks) = grind (arith, texts_have t ks)
-
-texts_last : (ks : List (Bor Text)) (k : Bor Text) → texts_in (ks ++ k ∷ []) ≡ texts_in ks ++ k.now ∷ []
-texts_last [] k = refl
-texts_last (q ∷ ks) k = ap (λ l. q.now ∷ l) (texts_last ks k)
 
 chosen : (b : Bool) (ks : List (Bor Text)) (k : Bor Text) → texts_in (cond b ks (ks ++ k ∷ [])) ≡ cond (not b) (texts_in ks ++ k.now ∷ []) (texts_in ks)
 chosen true ks k = refl

@@ -3,21 +3,21 @@ use Rattle.std.proofs.Common.{rules, ◌≡◌, ◌≢◌, ℕ, Bool, true, fals
 use Rattle.std.specs.Prelude.{IfSome, IsSomeAnd, IfOk, IfErr, string_bytes}
 use Rattle.std.specs.declared.string.String.{String}
 use Rattle.std.specs.declared.alloc.Global.{Global}
-use Rattle.gql_meta.specs.Parts.{Text}
+use Rattle.gql_registry_meta.specs.Parts.{Text}
 use Rattle.gql_text.specs.declared.document.Document.{Document}
 use Rattle.gql_text.specs.declared.document.Definition.{Definition}
 use Rattle.gql_publish.specs.declared.error.PublishError.{PublishError}
 use Rattle.gql_publish.specs.declared.error.PublishError.TheVariants as publish_error
 use Rattle.gql_dynamic.specs.declared.schema_error.SchemaError.{SchemaError}
-use Rattle.gql_publish.specs.Plain.{are_plain, query_of}
-use Rattle.gql_publish.specs.Rules.{first_fault}
-use Rattle.gql_rules.specs.Faults.{Fault}
+use Rattle.gql_publish.specs.Plain.{are_plain, root_query_name}
+use Rattle.gql_publish.specs.Rules.{first_plain_fault}
+use Rattle.gql_check_rules.specs.Faults.{Fault}
 use Rattle.gql_publish.specs.View.{view_of}
 use Rattle.gql_publish.specs.Spelling.{spell}
 use Rattle.gql_publish.specs.Verdict.{Refusal, Verdict, not_yet, broken, HasVerdict}
 use Rattle.gql_text.specs.Verdict.{Spells, IsFault}
-use Rattle.gql_syntax.specs.declared.error.ReadError.{ReadError}
-use Rattle.gql_syntax.specs.declared.error.ReadError.TheVariants as read_error
+use Rattle.gql_text_syntax.specs.declared.error.ReadError.{ReadError}
+use Rattle.gql_text_syntax.specs.declared.error.ReadError.TheVariants as read_error
 use Rattle.gql_publish.specs.Errors.{Refuses, read_as}
 use Rattle.gql_publish.specs.Answers.{published_with, published_as}
 use Rattle.gql_dynamic.specs.Errors.{fault_of}
@@ -28,7 +28,7 @@ use Rattle.gql_publish.specs.Outcome.{checked, outcome, Gives, Says}
 -- ---- the outcome, by its parts
 
 abbrev fault_in : List Definition → Option Fault
-fault_in definitions = first_fault definitions (query_of definitions)
+fault_in definitions = first_plain_fault definitions (root_query_name definitions)
 
 abbrev text_in : List Definition → Text
 text_in definitions = spell (view_of definitions)

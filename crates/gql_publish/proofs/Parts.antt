@@ -3,19 +3,21 @@ use Rattle.std.proofs.Common.{◌≡◌, true, false, List, [], ◌∷◌, map, 
 use Rattle.std.specs.List.{AllByRecursion}
 use Rattle.std.specs.Str.{bytes_eq}
 use Rattle.std.specs.Prelude.{codes}
-use Rattle.gql_lexer.specs.Forms.{IsName}
-use Rattle.gql_readback.proofs.Texts.{Spelled}
-use Rattle.gql_meta.specs.Parts.{Text, Field, Meta}
+use Rattle.gql_text_lexer.specs.Forms.{IsName}
+use Rattle.gql_sdl_readback.proofs.Texts.{Spelled}
+use Rattle.gql_registry_meta.specs.Parts.{Text, Field, Meta}
 use Rattle.gql_registry.specs.Plain as plain
-use Rattle.gql_syntax.specs.Grammar.{type_ref}
+use Rattle.gql_text_syntax.specs.Grammar.{type_ref}
+use Rattle.gql_text_syntax.specs.Types.{type_of}
+use Rattle.gql_text_syntax.specs.declared.syntax.TypeTree.{TypeTree}
 use Rattle.gql_text.specs.declared.document.Definition.{Definition}
 use Rattle.gql_text.specs.declared.document.Definition.TheVariants.{SchemaBlock, Scalar, Object, Interface, Union, Enum, Input, Directive}
 use Rattle.gql_text.specs.declared.document.FieldDef.{FieldDef}
-use Rattle.gql_value.specs.declared.type_ref.TypeRef.{TypeRef}
-use Rattle.gql_value.specs.TypeRefs.{type_text}
+use Rattle.gql_text_values.specs.declared.type_ref.TypeRef.{TypeRef}
+use Rattle.gql_text_values.specs.TypeRefs.{type_text}
 use Rattle.gql_publish.specs.Names.{are_distinct}
 use Rattle.gql_publish.specs.Plain.{type_names}
-use Rattle.gql_text.specs.Owners.{is_reserved}
+use Rattle.gql_text_lexer.specs.Forms.{is_reserved}
 use Rattle.gql_publish.specs.View.{field_entry, metas}
 
 pub record PlainField : Type 0 where
@@ -92,7 +94,9 @@ pub record IsTypeName (text : Text) : Type 0 where
 
 pub record IsSoundField (f : PlainField) : Type 0 where
   pub name : IsName f.name
-  pub ty : Spelled type_ref f.ty
+  pub tree : TypeTree
+  pub same : type_of tree ≡ f.ty
+  pub ty : Spelled type_ref tree
   pub free : is_reserved f.name ≡ false
 
 -- names are names and types were spelled; no name is reserved, and no field repeated

@@ -2,17 +2,17 @@
 use Rattle.std.proofs.Common.{◌≡◌, true, false, List, [], ◌∷◌, ◌++◌, None, Ok, map, flat_map, refl, sym, ap, ap₂, subst, ◌∙◌, codes, drop}
 use Rattle.std.specs.List.{AllByRecursion, list_all, filter_map}
 use Rattle.std.proofs.lemmas.List.{append_cancel_left}
-use Rattle.gql_lexer.specs.Bytes.{all_of}
-use Rattle.gql_lexer.specs.Forms.{IsName}
-use Rattle.gql_readback.proofs.Texts.{is_unquoted}
-use Rattle.gql_readback.proofs.Bytes.{unquoted-append, name_unquoted, unquoted_utf8, before_quote}
-use Rattle.gql_readback.proofs.Types.{type_unquoted}
-use Rattle.gql_readback.proofs.Whole.{spelled_by, one_tree}
-use Rattle.gql_meta.specs.Parts.{Text, Meta, is_among}
+use Rattle.gql_text_lexer.specs.Bytes.{all_of}
+use Rattle.gql_text_lexer.specs.Forms.{IsName}
+use Rattle.gql_sdl_readback.proofs.Texts.{is_unquoted}
+use Rattle.gql_sdl_readback.proofs.Bytes.{unquoted-append, name_unquoted, unquoted_utf8, before_quote}
+use Rattle.gql_sdl_readback.proofs.Types.{type_unquoted}
+use Rattle.gql_sdl_readback.proofs.Whole.{spelled_by, one_tree}
+use Rattle.gql_registry_meta.specs.Parts.{Text, Meta, is_among}
 use Rattle.gql_registry.specs.Registry.{with_types}
-use Rattle.gql_syntax.specs.Documents.{SpelledBy}
-use Rattle.gql_syntax.specs.declared.operation.OperationType.TheVariants.{Subscription}
-use Rattle.gql_syntax.specs.declared.syntax.WrittenDefinition.{WrittenDefinition}
+use Rattle.gql_text_syntax.specs.Documents.{SpelledBy}
+use Rattle.gql_text_syntax.specs.declared.operation.OperationType.TheVariants.{Subscription}
+use Rattle.gql_text_syntax.specs.declared.syntax.WrittenDefinition.{WrittenDefinition}
 use Rattle.gql_text.specs.DocumentOf.{definition_of, document_of}
 use Rattle.gql_text.specs.Owners.{no_names, duplicates, type_key, directive_key, second_schemas, query_faults, definition_faults, owner_faults}
 use Rattle.gql_text.specs.WrittenRoots.{first_schema}
@@ -20,12 +20,13 @@ use Rattle.gql_text.specs.Roots.{root_of}
 use Rattle.gql_text.specs.Verdict.{Spells}
 use Rattle.gql_text.specs.declared.document.Definition.{Definition}
 use Rattle.gql_text.specs.declared.document.Document.{Document}
-use Rattle.gql_value.specs.TypeRefs.{type_text}
+use Rattle.gql_text_values.specs.TypeRefs.{type_text}
+use Rattle.gql_text_values.specs.declared.type_ref.TypeRef.{TypeRef}
 use Rattle.gql_publish.specs.Names.{are_distinct}
-use Rattle.gql_publish.specs.Plain.{is_plain_definition, type_names, are_plain, query_of}
-use Rattle.gql_publish.specs.Rules.{first_fault}
+use Rattle.gql_publish.specs.Plain.{is_plain_definition, type_names, are_plain, root_query_name}
+use Rattle.gql_publish.specs.Rules.{first_plain_fault}
 use Rattle.gql_publish.specs.Spelling.{field_text, fields_text, body_text, meta_text, types_text, directives_text, schema_text, spell}
-use Rattle.gql_publish.specs.View.{View, metas, system_directives, view_of}
+use Rattle.gql_publish.specs.View.{View, metas, system_directive_views, view_of}
 use Rattle.gql_publish.specs.Verdict.{IsPlain, HasVerdict}
 use Rattle.gql_publish.specs.Readback.{IsReadBack, TellsView}
 use Rattle.gql_publish.proofs.Choices.{both}
@@ -40,9 +41,9 @@ use Rattle.gql_publish.proofs.Unbroken.{IsLawful, AreLawful, is_plain_object, ex
 
 record AreSound (ds : List Definition) : Type 0 where
   types : AllByRecursion IsSound (plains ds)
-  query : IsName (query_of ds)
+  query : IsName (root_query_name ds)
   distinct : are_distinct (map plain_name (plains ds)) ≡ true
-  lawful : AreLawful (plains ds) (map plain_name (plains ds)) (query_of ds)
+  lawful : AreLawful (plains ds) (map plain_name (plains ds)) (root_query_name ds)
 
 last_faults : (tree : List WrittenDefinition) → owner_faults tree ≡ [] → flat_map (definition_faults (root_of Subscription (document_of tree))) tree ≡ []
 last_faults tree e =
@@ -54,7 +55,7 @@ last_faults tree e =
     right_empty query own (right_empty second (query ++ own) (right_empty directives (second ++ (query ++ own)) (right_empty types (directives ++ (second ++ (query ++ own))) e)))
 
 tree_sound : (tree : List WrittenDefinition) (bytes : Text) → SpelledBy tree bytes → owner_faults tree ≡ [] → are_plain (map definition_of tree) ≡ true
-    → first_fault (map definition_of tree) (query_of (map definition_of tree)) ≡ None → AreSound (map definition_of tree)
+    → first_plain_fault (map definition_of tree) (root_query_name (map definition_of tree)) ≡ None → AreSound (map definition_of tree)
 tree_sound tree bytes s f p r =
     let ds = map definition_of tree in
     let tests = both (list_all is_plain_definition ds) (are_distinct (type_names ds)) (both _ _ p).0 in
@@ -63,7 +64,7 @@ tree_sound tree bytes s f p r =
       types = sound_types (root_of Subscription (document_of tree)) tree kept (last_faults tree f) tests.0;
       query = query_name tree kept tests.0;
       distinct = subst (λ (names : List Text). are_distinct names ≡ true) (names_are ds) tests.1;
-      lawful = lawful_types ds (query_of ds) r;
+      lawful = lawful_types ds (root_query_name ds) r;
     }
 
 sound_of : (bytes : Text) (document : Document) → HasVerdict bytes (Ok document) → AreSound document.definitions
@@ -71,7 +72,7 @@ sound_of bytes document h =
     let s = h.0.spelled in
     let same : document.definitions ≡ map definition_of s.tree = ap (λ (d : Document). d.definitions) s.stands in
     let plain : are_plain (map definition_of s.tree) ≡ true = subst (λ (ds : List Definition). are_plain ds ≡ true) same h.0.plain in
-    let unbroken : first_fault (map definition_of s.tree) (query_of (map definition_of s.tree)) ≡ None = subst (λ (ds : List Definition). first_fault ds (query_of ds) ≡ None) same h.1 in
+    let unbroken : first_plain_fault (map definition_of s.tree) (root_query_name (map definition_of s.tree)) ≡ None = subst (λ (ds : List Definition). first_plain_fault ds (root_query_name ds) ≡ None) same h.1 in
     subst AreSound (sym same) (tree_sound s.tree bytes s.spelled s.faultless plain unbroken)
 
 -- ---- its types in name order
@@ -92,14 +93,14 @@ types_of_view ds = ap (with_types []) (metas_are ds) ∙ entries_in_order [] (pl
 text_of_types : (ds : List Definition) → types_text (view_of ds).types ≡ type_lines (sorted ds)
 text_of_types ds = ap types_text (types_of_view ds) ∙ entries_text (with_plains [] (plains ds))
 
-sorted_lawful : (ds : List Definition) → AreSound ds → AreLawful (sorted ds) (map plain_name (sorted ds)) (query_of ds)
+sorted_lawful : (ds : List Definition) → AreSound ds → AreLawful (sorted ds) (map plain_name (sorted ds)) (root_query_name ds)
 sorted_lawful ds s =
     let names = map plain_name (plains ds) in
     let same : (name : Text) → is_among name (map plain_name (sorted ds)) ≡ is_among name names = λ name. among_in_order name (plains ds) s.distinct in
     record {
       types = all_in_order (IsLawful (map plain_name (sorted ds))) (plains ds) (each same (plains ds) s.lawful.types);
-      found = exists_same names (map plain_name (sorted ds)) same (query_of ds) s.lawful.found;
-      root = any_in_order (is_plain_object (query_of ds)) (plains ds) s.distinct ∙ s.lawful.root;
+      found = exists_same names (map plain_name (sorted ds)) same (root_query_name ds) s.lawful.found;
+      root = any_in_order (is_plain_object (root_query_name ds)) (plains ds) s.distinct ∙ s.lawful.root;
     }
   where
     each : ((name : Text) → is_among name (map plain_name (sorted ds)) ≡ is_among name (map plain_name (plains ds))) → (ts : List PlainType)
@@ -113,7 +114,7 @@ unquoted_field : (v : PlainField) → IsSoundField v → all_of is_unquoted (fie
 unquoted_field v i =
     let ty = type_text v.ty ++ codes "\n" in
     unquoted-append (codes "\t") (v.name ++ (codes ": " ++ ty)) refl (unquoted-append v.name (codes ": " ++ ty) (name_unquoted v.name i.name)
-    (unquoted-append (codes ": ") ty refl (unquoted-append (type_text v.ty) (codes "\n") (type_unquoted v.ty i.ty) refl)))
+    (unquoted-append (codes ": ") ty refl (unquoted-append (type_text v.ty) (codes "\n") (subst (λ (t : TypeRef). all_of is_unquoted (type_text t) ≡ true) i.same (type_unquoted i.tree i.ty)) refl)))
 
 unquoted_fields : (vs : List PlainField) → AllByRecursion IsSoundField vs → all_of is_unquoted (fields_text (map entry_of vs)) ≡ true
 unquoted_fields [] a = refl
@@ -150,13 +151,13 @@ record IsBack (view : View) : Type 0 where
   valid : HasVerdict (bare view) (Ok document)
   same : view_of document.definitions ≡ view
 
-view_same : (ds es : List Definition) → query_of es ≡ query_of ds → with_types [] (metas es) ≡ with_types [] (metas ds) → view_of es ≡ view_of ds
-view_same ds es q t = ap₂ (λ (query : Text) (types : List (Text × Meta)). record { query = query; types = types; directives = system_directives }) q t
+view_same : (ds es : List Definition) → root_query_name es ≡ root_query_name ds → with_types [] (metas es) ≡ with_types [] (metas ds) → view_of es ≡ view_of ds
+view_same ds es q t = ap₂ (λ (query : Text) (types : List (Text × Meta)). record { query = query; types = types; directives = system_directive_views }) q t
 
 sound_back : (ds : List Definition) → AreSound ds → IsBack (view_of ds)
 sound_back ds s =
     let ts = sorted ds in
-    let query = query_of ds in
+    let query = root_query_name ds in
     let types = all_in_order IsSound (plains ds) s.types in
     let distinct = distinct_in_order (plains ds) in
     let text = type_lines ts ++ schema_text query in
@@ -174,8 +175,8 @@ sound_back ds s =
       stands = refl;
     } in
     let plain : IsPlain text (document_of tree) = record { spelled = spells; plain = tree_plain ts query tree z types distinct } in
-    let lawful : AreLawful (plains es) (map plain_name (plains es)) (query_of es) = rw (are, root) (sorted_lawful ds s) in
-    let valid : HasVerdict text (Ok (document_of tree)) = (plain, breaks_none es (query_of es) lawful) in
+    let lawful : AreLawful (plains es) (map plain_name (plains es)) (root_query_name es) = rw (are, root) (sorted_lawful ds s) in
+    let valid : HasVerdict text (Ok (document_of tree)) = (plain, breaks_none es (root_query_name es) lawful) in
     let same : with_types [] (metas es) ≡ with_types [] (metas ds) =
     types_of_view es ∙ ap (λ (l : List PlainType). map meta_entry (with_plains [] l)) are ∙ ap (map meta_entry) (again_same (plains ds)) ∙ sym (types_of_view ds) in
     record {
@@ -205,7 +206,7 @@ one_read v w a b e =
     sym a.same ∙ ap (λ (d : Document). view_of d.definitions) same ∙ b.same
 
 abbrev described : Text
-described = directives_text system_directives
+described = directives_text system_directive_views
 
 unquoted_view : (ds : List Definition) → AreSound ds → all_of is_unquoted (types_text (view_of ds).types) ≡ true
 unquoted_view ds s = rw (text_of_types ds) (unquoted_types (sorted ds) (all_in_order IsSound (plains ds) s.types))

@@ -5,8 +5,8 @@ use Rattle.std.specs.String.{string_eq}
 use Rattle.indexmap.specs.IndexMap.{insert_entry}
 use Rattle.std.specs.declared.string.String.{String}
 use Rattle.std.specs.declared.alloc.Global.{Global}
-use Rattle.gql_meta.specs.Parts.{Text, is_among}
-use Rattle.gql_meta.specs.Views.{text_of, entries_of}
+use Rattle.gql_registry_meta.specs.Parts.{Text, is_among}
+use Rattle.gql_registry_meta.specs.Views.{text_of, entries_of}
 use Rattle.gql_publish.specs.Names.{keys_in}
 
 step : {A B : Type 0} (f : A → B) (b r : Bool) (e : String Global × A) (v : A) (es xs : List (String Global × A)) (ys : List (Text × B)) → (b || r) ≡ false

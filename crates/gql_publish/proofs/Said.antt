@@ -3,30 +3,34 @@ use Rattle.std.proofs.Common.{◌≡◌, ℕ, true, List, [], ◌∷◌, ◌++�
 use Rattle.std.proofs.lemmas.List.{append-nil}
 use Rattle.std.specs.List.{AllByRecursion, AllZip}
 use Rattle.gql_grammar.specs.Form.{many, some}
-use Rattle.gql_lexer.specs.Bytes.{goes_on_name, ends_before}
-use Rattle.gql_lexer.specs.Forms.{IsName}
-use Rattle.gql_readback.proofs.Texts.{Says}
-use Rattle.gql_readback.proofs.Says.{blank, blanks_behind, name_says, sign_says, sign_then, word_then, joined, nothing_then, absent, present, IsThere, left, right, mapped, weaken, none, IsCons, cons_says, many_says, some_says}
-use Rattle.gql_readback.proofs.Types.{type_ref_says}
-use Rattle.gql_meta.specs.Parts.{Text}
-use Rattle.gql_syntax.specs.Grammar as g
-use Rattle.gql_syntax.specs.Reads.{or_none}
-use Rattle.gql_syntax.specs.Sorts as s
-use Rattle.gql_syntax.specs.Values.{key}
-use Rattle.gql_syntax.specs.declared.operation.OperationType.TheVariants.{Query}
-use Rattle.gql_syntax.specs.declared.syntax.PlacedName.{PlacedName}
-use Rattle.gql_syntax.specs.declared.syntax.Description.{Description}
-use Rattle.gql_syntax.specs.declared.syntax.Field.{Field}
-use Rattle.gql_syntax.specs.declared.syntax.InputValue.{InputValue}
-use Rattle.gql_syntax.specs.declared.syntax.Implements.{Implements}
-use Rattle.gql_syntax.specs.declared.syntax.Use.{Use}
-use Rattle.gql_syntax.specs.declared.syntax.Root.{Root}
-use Rattle.gql_syntax.specs.declared.syntax.ObjectLike.{ObjectLike}
-use Rattle.gql_syntax.specs.declared.syntax.Kind.{Kind}
-use Rattle.gql_syntax.specs.declared.syntax.Kind.TheVariants as kinds
-use Rattle.gql_syntax.specs.declared.syntax.WrittenDefinition.{WrittenDefinition}
-use Rattle.gql_value.specs.declared.type_ref.TypeRef.{TypeRef}
-use Rattle.gql_value.specs.TypeRefs.{type_text}
+use Rattle.gql_text_lexer.specs.Bytes.{goes_on_name, ends_before}
+use Rattle.gql_text_lexer.specs.Forms.{IsName}
+use Rattle.gql_sdl_readback.proofs.Texts.{Says}
+use Rattle.gql_sdl_readback.proofs.Says.{blank, blanks_behind, name_says, sign_says, sign_then, word_then, joined, nothing_then, absent, present, IsThere, left, right, mapped, weaken, none, IsCons, cons_says, many_says, some_says}
+use Rattle.gql_sdl_readback.proofs.Types.{type_ref_says}
+use Rattle.gql_registry_meta.specs.Parts.{Text}
+use Rattle.gql_text_syntax.specs.Grammar as g
+use Rattle.gql_text_syntax.specs.Reads.{or_none}
+use Rattle.gql_text_syntax.specs.Sorts as s
+use Rattle.gql_text_syntax.specs.Sorts.{code, only, token}
+use Rattle.gql_text_syntax.specs.declared.sort.Sort.TheVariants.{CloseBrace, WordQuery, WordScalar, WordSchema, WordType}
+use Rattle.gql_text_syntax.specs.Values.{key}
+use Rattle.gql_text_syntax.specs.declared.operation.OperationType.TheVariants.{Query}
+use Rattle.gql_text_syntax.specs.declared.syntax.PlacedName.{PlacedName}
+use Rattle.gql_text_syntax.specs.declared.syntax.Description.{Description}
+use Rattle.gql_text_syntax.specs.declared.syntax.Field.{Field}
+use Rattle.gql_text_syntax.specs.declared.syntax.InputValue.{InputValue}
+use Rattle.gql_text_syntax.specs.declared.syntax.Implements.{Implements}
+use Rattle.gql_text_syntax.specs.declared.syntax.Use.{Use}
+use Rattle.gql_text_syntax.specs.declared.syntax.Root.{Root}
+use Rattle.gql_text_syntax.specs.declared.syntax.ObjectLike.{ObjectLike}
+use Rattle.gql_text_syntax.specs.declared.syntax.Kind.{Kind}
+use Rattle.gql_text_syntax.specs.declared.syntax.Kind.TheVariants as kinds
+use Rattle.gql_text_syntax.specs.declared.syntax.WrittenDefinition.{WrittenDefinition}
+use Rattle.gql_text_values.specs.declared.type_ref.TypeRef.{TypeRef}
+use Rattle.gql_text_syntax.specs.Types.{type_of}
+use Rattle.gql_text_syntax.specs.declared.syntax.TypeTree.{TypeTree}
+use Rattle.gql_text_values.specs.TypeRefs.{type_text}
 use Rattle.gql_publish.specs.Spelling.{field_text, fields_text, body_text, meta_text, schema_text}
 use Rattle.gql_publish.proofs.Parts.{PlainField, PlainType, plain_scalar, plain_object, entry_of, meta_of, IsSoundField, IsSound}
 
@@ -35,8 +39,8 @@ use Rattle.gql_publish.proofs.Parts.{PlainField, PlainType, plain_scalar, plain_
 abbrev pub key_at : Text → ℕ → PlacedName
 key_at name at = record { name = name; at = at }
 
-abbrev pub bare_field : PlainField → ℕ → Field
-bare_field v at = record { description = None; key = key_at v.name at; arguments = []; ty = v.ty; uses = [] }
+abbrev pub bare_field : PlainField → TypeTree → ℕ → Field
+bare_field v ty at = record { description = None; key = key_at v.name at; arguments = []; ty = ty; uses = [] }
 
 abbrev pub bare_object : Text → ℕ → List Field → ObjectLike
 bare_object name at fields = record { key = key_at name at; implements = None; uses = []; fields = fields }
@@ -45,7 +49,7 @@ abbrev pub query_line : Text → ℕ → Root
 query_line query at = record { kind = Query; at = at; name = query }
 
 abbrev pub IsField : PlainField → Field → Type 0
-IsField v f = (at : ℕ) × (f ≡ bare_field v at)
+IsField v f = (at : ℕ) × (ty : TypeTree) × (type_of ty ≡ v.ty) × (f ≡ bare_field v ty at)
 
 abbrev pub IsObject : Text → List PlainField → ObjectLike → Type 0
 IsObject name fields o = (at : ℕ) × (written : List Field) × AllZip IsField fields written × (o ≡ bare_object name at written)
@@ -88,10 +92,16 @@ key_says : (name rest : Text) → IsName name → ends_before goes_on_name rest 
 unfolding key
 key_says name rest n k = mapped (name_says name rest n k) (λ t h. h)
 
-field_same : (v : PlainField) (d : Option Description) (k : PlacedName) (arguments : List InputValue) (ty : TypeRef) (uses : List Use)
-    → d ≡ None → k.name ≡ v.name → arguments ≡ [] → ty ≡ v.ty → uses ≡ []
-    → record { description = d; key = k; arguments = arguments; ty = ty; uses = uses } ≡ bare_field v k.at
-field_same v d k arguments ty uses a b c e f = rw (a, ← b, c, e, f) refl
+field_same : (v : PlainField) (d : Option Description) (k : PlacedName) (arguments : List InputValue) (ty : TypeTree) (uses : List Use)
+    → d ≡ None → k.name ≡ v.name → arguments ≡ [] → uses ≡ []
+    → record { description = d; key = k; arguments = arguments; ty = ty; uses = uses } ≡ bare_field v ty k.at
+field_same v d k arguments ty uses a b c f = rw (a, ← b, c, f) refl
+
+-- the text of a field's type says a type that is built alike
+type_says : (v : PlainField) (rest : Text) → IsSoundField v → ends_before goes_on_name rest ≡ true → Says g.type_ref (λ x. type_of x ≡ v.ty) (type_text v.ty) rest
+type_says v rest i k =
+    subst (λ (t : TypeRef). Says g.type_ref (λ x. type_of x ≡ t) (type_text t) rest) i.same
+    (weaken (λ x. type_of x ≡ type_of i.tree) (type_ref_says i.tree rest i.ty k) (λ x h. ap type_of h))
 
 -- Name ":" Type, on a line of its own
 pub field_says : (v : PlainField) (rest : Text) → IsSoundField v → Says g.field (IsField v) (field_text (entry_of v).1) rest
@@ -101,8 +111,8 @@ field_says v rest i =
     blank refl (mapped (nothing_then (no_description _)
     (joined v.name (codes ": " ++ (ty ++ codes "\n")) rest (key_says v.name _ i.name refl)
     (nothing_then (no_arguments _) (sign_then refl refl refl (blank refl
-    (joined ty (codes "\n") rest (type_ref_says v.ty (codes "\n" ++ rest) i.ty refl) (blank refl (no_uses rest))))))))
-    (λ p h. (p.1.0.at, field_same v _ p.1.0 _ _ _ h.0 h.1.0 h.1.1.0 h.1.1.1.0 h.1.1.1.1)))
+    (joined ty (codes "\n") rest (type_says v (codes "\n" ++ rest) i refl) (blank refl (no_uses rest))))))))
+    (λ p h. (p.1.0.at, p.1.1.1.1.0, h.1.1.1.0, field_same v _ p.1.0 _ _ _ h.0 h.1.0 h.1.1.0 h.1.1.1.1)))
 
 all_fields : (fields : List PlainField) → AllByRecursion IsSoundField fields → AllByRecursion (λ v. (rest : Text) → Unit {0} → Says g.field (IsField v) (field_text (entry_of v).1) rest) fields
 all_fields [] a = tt
@@ -117,7 +127,7 @@ braced_says : (fields : List PlainField) (rest : Text) → AllByRecursion IsSoun
 unfolding g.braced
 braced_says fields rest a =
     rw (← fields_are fields) (mapped (sign_then refl refl refl (blank refl (joined (flat_map (λ v. field_text (entry_of v).1) fields) (codes "}") rest
-    (many_says g.field IsField (λ v. field_text (entry_of v).1) (λ r. Unit {0}) (λ v r. tt) fields (codes "}" ++ rest) (all_fields fields a) tt) (sign_says 125 s.close_brace rest refl refl refl))))
+    (many_says g.field IsField (λ v. field_text (entry_of v).1) (λ r. Unit {0}) (λ v r. tt) fields (codes "}" ++ rest) (all_fields fields a) tt) (sign_says 125 (code CloseBrace) rest refl refl refl))))
     (λ p h. h.0))
 
 -- the body, and the blanks behind it
@@ -140,7 +150,7 @@ scalar_same name k uses e f = rw (← e, f) refl
 scalar_says : (name rest : Text) → IsName name → Says g.scalar (IsKind (plain_scalar name)) (meta_text (meta_of (plain_scalar name))) rest
 unfolding g.scalar
 scalar_says name rest i =
-    mapped (word_then (s.word_scalar ∷ []) (codes "scalar") (codes " " ++ (name ++ codes "\n\n")) (refl, refl) refl refl
+    mapped (word_then (only WordScalar) (codes "scalar") (codes " " ++ (name ++ codes "\n\n")) (refl, refl) refl refl
     (blank refl (joined name (codes "\n\n") rest (key_says name _ i refl) (blank refl (blank refl (no_uses rest))))))
     (λ p h. (p.1.0.at, scalar_same name p.1.0 p.1.1 h.1.0 h.1.1))
 
@@ -167,11 +177,11 @@ object_says : (name : Text) (fields : List PlainField) (rest : Text) → IsName 
     → Says g.object (IsKind (plain_object name fields)) (meta_text (meta_of (plain_object name fields))) rest
 unfolding g.object
 object_says name fields rest i a =
-    mapped (word_then (s.word_type ∷ []) (codes "type") (codes " " ++ (name ++ (body_text (map entry_of fields) ++ codes "\n\n"))) (refl, refl) refl refl
+    mapped (word_then (only WordType) (codes "type") (codes " " ++ (name ++ (body_text (map entry_of fields) ++ codes "\n\n"))) (refl, refl) refl refl
     (blank refl (object_like_says name fields rest i a)))
     (λ p h. (h.1.0, h.1.1, h.1.2, ap kinds.Object h.1.3))
 
-root_same : (query : Text) (sort at : ℕ) (name : Text) → sort ≡ s.word_query → name ≡ query → record { kind = g.operation_type sort; at = at; name = name } ≡ query_line query at
+root_same : (query : Text) (sort at : ℕ) (name : Text) → sort ≡ (code WordQuery) → name ≡ query → record { kind = g.operation_type sort; at = at; name = name } ≡ query_line query at
 root_same query sort at name e f = rw (e, f) refl
 
 -- "query" ":" Name
@@ -201,7 +211,7 @@ roots_say : (query rest : Text) → IsName query → Says g.roots (λ roots. (li
 unfolding g.roots
 roots_say query rest i =
     mapped (sign_then refl refl refl (blank refl (blank refl (joined (codes "query: " ++ query) (codes "\n}\n") rest (line_says query _ i refl)
-    (blank refl (blanks_behind (codes "}") (codes "\n") rest (refl, tt) (sign_says 125 s.close_brace _ refl refl refl)))))))
+    (blank refl (blanks_behind (codes "}") (codes "\n") rest (refl, tt) (sign_says 125 (code CloseBrace) _ refl refl refl)))))))
     (λ p h. h.0)
 
 block_same : (query : Text) (at line : ℕ) (uses : List Use) (roots : List Root) → uses ≡ [] → roots ≡ query_line query line ∷ [] → kinds.Schema at uses roots ≡ kinds.Schema at [] (query_line query line ∷ [])
@@ -211,7 +221,7 @@ block_same query at line uses roots e f = rw (e, f) refl
 schema_says : (query rest : Text) → IsName query → Says g.schema_block (IsBlock query) (schema_text query) rest
 unfolding g.schema_block
 schema_says query rest i =
-    mapped (word_then (s.word_schema ∷ []) (codes "schema") (codes " {\n\tquery: " ++ (query ++ codes "\n}\n")) (refl, refl) refl refl (blank refl (nothing_then (no_uses _) (roots_say query rest i))))
+    mapped (word_then (only WordSchema) (codes "schema") (codes " {\n\tquery: " ++ (query ++ codes "\n}\n")) (refl, refl) refl refl (blank refl (nothing_then (no_uses _) (roots_say query rest i))))
     (λ p h. (p.0.at, h.1.1.0, block_same query p.0.at h.1.1.0 p.1.0 p.1.1 h.1.0 h.1.1.1))
 
 -- ---- parts of a document

@@ -12,7 +12,7 @@ use Rattle.std.proofs.lemmas.Map.Text.{is_eq-slice_cmp}
 use Rattle.std.specs.Ordering.{match_ordering, ordering_reverse, is_eq}
 use Rattle.std.specs.declared.cmp.Ordering.{Ordering}
 use Rattle.std.specs.declared.cmp.Ordering.TheVariants.{Less, Equal, Greater}
-use Rattle.gql_meta.specs.Parts.{Text, Meta, name_of, text_cmp, is_among}
+use Rattle.gql_registry_meta.specs.Parts.{Text, Meta, name_of, text_cmp, is_among}
 use Rattle.gql_registry.specs.Registry.{with_types}
 use Rattle.gql_publish.specs.Names.{are_new, are_distinct}
 use Rattle.gql_publish.proofs.Choices.{both, neither, not_false, or_last, or_nothing, or_swap, or_turn}

@@ -3,8 +3,8 @@ use Rattle.std.proofs.Common.{◌≡◌, ℕ, List, [], ◌∷◌, ◌++◌, fla
 use Rattle.std.specs.Map.{values_of}
 use Rattle.std.specs.declared.string.String.{String}
 use Rattle.std.specs.declared.alloc.Global.{Global}
-use Rattle.gql_meta.specs.Parts.{Field}
-use Rattle.gql_meta.specs.Views.{entries_of}
+use Rattle.gql_registry_meta.specs.Parts.{Field}
+use Rattle.gql_registry_meta.specs.Views.{entries_of}
 use Rattle.gql_publish.specs.Spelling.{body_text, fields_text}
 
 pub flat_map_entries : {X Y : Type 0} (f : X → Y) (g : Y → List ℕ) (es : List (String Global × X)) → flat_map (λ e. g e.1) (entries_of f es) ≡ flat_map (λ v. g (f v)) (values_of es)

@@ -5,20 +5,21 @@ use Rattle.std.specs.List.{AllByRecursion, AllZip, list_all, list_any, filter_ma
 use Rattle.std.specs.Str.{bytes_eq}
 use Rattle.std.proofs.lemmas.List.Folds.{list_any-append}
 use Rattle.std.specs.Cmp.Lexicographic.{same_text}
-use Rattle.gql_meta.specs.Parts.{Text, is_among}
-use Rattle.gql_syntax.specs.declared.operation.OperationType.TheVariants.{Subscription}
-use Rattle.gql_syntax.specs.declared.syntax.PlacedName.{PlacedName}
-use Rattle.gql_syntax.specs.declared.syntax.Field.{Field}
-use Rattle.gql_syntax.specs.declared.syntax.WrittenDefinition.{WrittenDefinition}
-use Rattle.gql_text.specs.DocumentOf.{definition_of, field_of, root_line_of, document_of}
-use Rattle.gql_text.specs.Owners.{Names, no_names, with_name, duplicates, is_reserved, field_faults, fields_faults, definition_faults, type_key, directive_key, second_schemas, query_faults, owner_faults}
+use Rattle.gql_registry_meta.specs.Parts.{Text, is_among}
+use Rattle.gql_text_syntax.specs.declared.operation.OperationType.TheVariants.{Subscription}
+use Rattle.gql_text_syntax.specs.declared.syntax.PlacedName.{PlacedName}
+use Rattle.gql_text_syntax.specs.declared.syntax.Field.{Field}
+use Rattle.gql_text_syntax.specs.declared.syntax.WrittenDefinition.{WrittenDefinition}
+use Rattle.gql_text.specs.DocumentOf.{definition_of, field_def_of, root_line_of, document_of}
+use Rattle.gql_text_lexer.specs.Forms.{is_reserved}
+use Rattle.gql_text.specs.Owners.{Names, no_names, with_seen_name, duplicates, field_faults, fields_faults, definition_faults, type_key, directive_key, second_schemas, query_faults, owner_faults}
 use Rattle.gql_text.specs.Roots.{root_of, root_by}
 use Rattle.gql_text.specs.Roots as roots
 use Rattle.gql_text.specs.WrittenRoots.{first_schema}
 use Rattle.gql_text.specs.declared.document.Definition.{Definition}
 use Rattle.gql_text.specs.declared.document.Definition.TheVariants.{SchemaBlock}
 use Rattle.gql_publish.specs.Names.{are_new, are_distinct}
-use Rattle.gql_publish.specs.Plain.{is_plain_field, is_plain_definition, is_schema_block, field_names, type_names, are_plain, query_of}
+use Rattle.gql_publish.specs.Plain.{is_plain_field, is_plain_definition, is_schema_block, field_names, type_names, are_plain, root_query_name}
 use Rattle.gql_publish.proofs.Choices.{both, not_false, or_last}
 use Rattle.gql_publish.proofs.Parts.{PlainField, PlainType, plain_scalar, plain_object, plain_name, plain_field, field_name, plains, names_are, IsSoundField, IsSound}
 use Rattle.gql_publish.proofs.Kept.{names_of_fields}
@@ -29,11 +30,11 @@ IsTree ts query tree = AllZip IsPart (parts_of ts query) tree
 
 -- ---- its document
 
-fields_back : (fields : List PlainField) (fs : List Field) → AllZip IsField fields fs → map plain_field (map field_of fs) ≡ fields
+fields_back : (fields : List PlainField) (fs : List Field) → AllZip IsField fields fs → map plain_field (map field_def_of fs) ≡ fields
 fields_back [] [] z = refl
 fields_back [] (f ∷ fs) z = absurd z
 fields_back (v ∷ vs) [] z = absurd z
-fields_back (v ∷ vs) (f ∷ fs) z = rw z.0.1 (ap (λ (l : List PlainField). v ∷ l) (fields_back vs fs z.1))
+fields_back (v ∷ vs) (f ∷ fs) z = rw (z.0.3, z.0.2) (ap (λ (l : List PlainField). v ∷ l) (fields_back vs fs z.1))
 
 pub plains_are : (ts : List PlainType) (query : Text) (tree : List WrittenDefinition) → IsTree ts query tree → plains (map definition_of tree) ≡ ts
 plains_are [] query [] z = absurd z
@@ -44,7 +45,7 @@ plains_are (plain_scalar name ∷ ts) query (d ∷ tree) z = rw z.0.1.1 (ap (λ 
 plains_are (plain_object name fields ∷ ts) query (d ∷ tree) z =
     rw z.0.1.3 (ap₂ (λ (fs : List PlainField) (l : List PlainType). plain_object name fs ∷ l) (fields_back fields z.0.1.1 z.0.1.2) (plains_are ts query tree z.1))
 
-pub query_is : (ts : List PlainType) (query : Text) (tree : List WrittenDefinition) → IsTree ts query tree → query_of (map definition_of tree) ≡ query
+pub query_is : (ts : List PlainType) (query : Text) (tree : List WrittenDefinition) → IsTree ts query tree → root_query_name (map definition_of tree) ≡ query
 query_is [] query [] z = absurd z
 query_is [] query (d ∷ []) z = rw z.0.1.2 refl
 query_is [] query (d ∷ e ∷ tree) z = absurd z.1
@@ -60,14 +61,14 @@ has_block (t ∷ ts) query [] z = absurd z
 has_block (plain_scalar name ∷ ts) query (d ∷ tree) z = rw z.0.1.1 (has_block ts query tree z.1)
 has_block (plain_object name fields ∷ ts) query (d ∷ tree) z = rw z.0.1.3 (has_block ts query tree z.1)
 
-plain_fields : (fields : List PlainField) (fs : List Field) → AllZip IsField fields fs → AllByRecursion IsSoundField fields → list_all is_plain_field (map field_of fs) ≡ true
+plain_fields : (fields : List PlainField) (fs : List Field) → AllZip IsField fields fs → AllByRecursion IsSoundField fields → list_all is_plain_field (map field_def_of fs) ≡ true
 plain_fields [] [] z a = refl
 plain_fields [] (f ∷ fs) z a = absurd z
 plain_fields (v ∷ vs) [] z a = absurd z
-plain_fields (v ∷ vs) (f ∷ fs) z a = rw (z.0.1, a.0.free) (plain_fields vs fs z.1 a.1)
+plain_fields (v ∷ vs) (f ∷ fs) z a = rw (z.0.3, a.0.free) (plain_fields vs fs z.1 a.1)
 
-distinct_fields : (fields : List PlainField) (fs : List Field) → AllZip IsField fields fs → are_distinct (map field_name fields) ≡ true → are_distinct (field_names (map field_of fs)) ≡ true
-distinct_fields fields fs z e = rw (names_of_fields (map field_of fs), fields_back fields fs z) e
+distinct_fields : (fields : List PlainField) (fs : List Field) → AllZip IsField fields fs → are_distinct (map field_name fields) ≡ true → are_distinct (field_names (map field_def_of fs)) ≡ true
+distinct_fields fields fs z e = rw (names_of_fields (map field_def_of fs), fields_back fields fs z) e
 
 plain_definitions : (ts : List PlainType) (query : Text) (tree : List WrittenDefinition) → IsTree ts query tree → AllByRecursion IsSound ts → list_all is_plain_definition (map definition_of tree) ≡ true
 plain_definitions [] query [] z a = absurd z
@@ -98,7 +99,7 @@ same_turned a b = by (bytes_eq a b) (bytes_eq b a) refl refl
 abbrev Has : Names → List Text → Type 0
 Has names earlier = (name : Text) → names name ≡ is_among name earlier
 
-has_more : (names : Names) (earlier : List Text) (name : Text) → Has names earlier → Has (with_name name names) (earlier ++ name ∷ [])
+has_more : (names : Names) (earlier : List Text) (name : Text) → Has names earlier → Has (with_seen_name name names) (earlier ++ name ∷ [])
 has_more names earlier name h other =
     ap₂ (λ (a b : Bool). a || b) (same_turned name other) (h other) ∙ or_last (bytes_eq other name) (is_among other earlier) ∙ sym (list_any-append (bytes_eq other) earlier (name ∷ []))
 
@@ -107,7 +108,7 @@ none_repeats names earlier [] h n = refl
 none_repeats names earlier (k ∷ keys) h n =
     let now = both (not (is_among k.name earlier)) (are_new (earlier ++ k.name ∷ []) (map (λ k. k.name) keys)) n in
     let new : names k.name ≡ false = h k.name ∙ not_false _ now.0 in
-    rw (new, none_repeats (with_name k.name names) (earlier ++ k.name ∷ []) keys (has_more names earlier k.name h) now.1) refl
+    rw (new, none_repeats (with_seen_name k.name names) (earlier ++ k.name ∷ []) keys (has_more names earlier k.name h) now.1) refl
 
 no_duplicates : (keys : List PlacedName) → are_distinct (map (λ k. k.name) keys) ≡ true → duplicates no_names keys ≡ []
 no_duplicates keys d = none_repeats no_names [] keys (λ name. refl) d
@@ -169,13 +170,13 @@ field_keys : (fields : List PlainField) (fs : List Field) → AllZip IsField fie
 field_keys [] [] z = refl
 field_keys [] (f ∷ fs) z = absurd z
 field_keys (v ∷ vs) [] z = absurd z
-field_keys (v ∷ vs) (f ∷ fs) z = rw z.0.1 (ap (λ (l : List Text). v.name ∷ l) (field_keys vs fs z.1))
+field_keys (v ∷ vs) (f ∷ fs) z = rw z.0.3 (ap (λ (l : List Text). v.name ∷ l) (field_keys vs fs z.1))
 
 no_field_faults : (fields : List PlainField) (fs : List Field) → AllZip IsField fields fs → flat_map field_faults fs ≡ []
 no_field_faults [] [] z = refl
 no_field_faults [] (f ∷ fs) z = absurd z
 no_field_faults (v ∷ vs) [] z = absurd z
-no_field_faults (v ∷ vs) (f ∷ fs) z = rw z.0.1 (no_field_faults vs fs z.1)
+no_field_faults (v ∷ vs) (f ∷ fs) z = rw z.0.3 (no_field_faults vs fs z.1)
 
 no_fields_faults : (fields : List PlainField) (fs : List Field) → AllZip IsField fields fs → are_distinct (map field_name fields) ≡ true → fields_faults fs ≡ []
 no_fields_faults fields fs z d =

@@ -3,15 +3,17 @@ use Rattle.std.proofs.Common.{◌≡◌, Bool, true, false, List, [], ◌∷◌,
 use Rattle.std.specs.Prelude.{◌&&◌, ◌||◌, not}
 use Rattle.std.specs.List.{AllByRecursion, list_any}
 use Rattle.std.specs.Str.{bytes_eq}
-use Rattle.gql_meta.specs.Parts.{Text, is_among}
+use Rattle.gql_registry_meta.specs.Parts.{Text, is_among}
 use Rattle.gql_text.specs.declared.document.Definition.{Definition}
 use Rattle.gql_text.specs.declared.document.Definition.TheVariants.{SchemaBlock, Scalar, Object, Interface, Union, Enum, Input, Directive}
 use Rattle.gql_text.specs.declared.document.FieldDef.{FieldDef}
-use Rattle.gql_value.specs.TypeRefs.{reference, innermost}
-use Rattle.gql_publish.specs.Plain.{is_empty, type_names}
-use Rattle.gql_publish.specs.Rules.{is_system_scalar, exists, is_object, missing, name_fault, field_missing, existence_fault, root_fault, object_fault, tests, first_fault}
-use Rattle.gql_rules.specs.Faults.{query_root}
-use Rattle.gql_rules.specs.Tests.{fault_if, or_else, first_of, first_in}
+use Rattle.gql_text_values.specs.TypeRefs.{reference, innermost}
+use Rattle.gql_registry_meta.specs.Parts.{is_empty}
+use Rattle.gql_check_rules.specs.Schema.{is_system_scalar}
+use Rattle.gql_publish.specs.Plain.{type_names}
+use Rattle.gql_publish.specs.Rules.{exists, is_object, missing, name_fault, field_missing, existence_fault, root_fault, object_fault, tests, first_plain_fault}
+use Rattle.gql_check_rules.specs.Faults.{query_root}
+use Rattle.gql_check_rules.specs.Tests.{fault_if, or_else, first_of, first_in}
 use Rattle.gql_publish.proofs.Choices.{not_true, true_not}
 use Rattle.gql_publish.proofs.Parts.{PlainField, PlainType, plain_scalar, plain_object, plain_name, plain_field, plains, names_are}
 
@@ -186,8 +188,8 @@ module _ (defined others : List Text) (same : (name : Text) → is_among name ot
   lawful_same (plain_object name fields) l = (l.0, fields_same fields l.1, l.2)
 
 -- the document breaks no rule where its types are lawful, and the other way round
-pub lawful_types : (ds : List Definition) (query : Text) → first_fault ds query ≡ None → AreLawful (plains ds) (map plain_name (plains ds)) query
+pub lawful_types : (ds : List Definition) (query : Text) → first_plain_fault ds query ≡ None → AreLawful (plains ds) (map plain_name (plains ds)) query
 lawful_types ds query e = subst (λ (names : List Text). AreLawful (plains ds) names query) (names_are ds) (lawful_by (type_names ds) ds query e)
 
-pub breaks_none : (ds : List Definition) (query : Text) → AreLawful (plains ds) (map plain_name (plains ds)) query → first_fault ds query ≡ None
+pub breaks_none : (ds : List Definition) (query : Text) → AreLawful (plains ds) (map plain_name (plains ds)) query → first_plain_fault ds query ≡ None
 breaks_none ds query l = by_lawful (type_names ds) ds query (subst (λ (names : List Text). AreLawful (plains ds) names query) (sym (names_are ds)) l)

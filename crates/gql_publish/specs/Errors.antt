@@ -1,16 +1,18 @@
 -- What the errors of the code stand for, and the lines that tell them.
-use Rattle.std.specs.Prelude.{ℕ, [], ◌∷◌, ◌++◌, string_bytes, codes, decimal, IsSomeAnd}
+use Rattle.std.specs.declared.string.String.{String}
+use Rattle.std.specs.declared.alloc.Global.{Global}
+use Rattle.std.specs.Prelude.{ℕ, [], ◌∷◌, ◌++◌, ◌≡◌, string_bytes, codes, decimal, IsSomeAnd}
 use Rattle.std.specs.List.{concat}
-use Rattle.gql_meta.specs.Parts.{Text}
+use Rattle.gql_registry_meta.specs.Parts.{Text}
 use Rattle.gql_publish.specs.declared.error.PublishError.{PublishError}
 use Rattle.gql_publish.specs.declared.error.PublishError.TheVariants as publish_error
 use Rattle.gql_dynamic.specs.Errors.{fault_of, message_of}
-use Rattle.gql_rules.specs.Faults.{sentence}
+use Rattle.gql_check_rules.specs.Faults.{sentence}
 use Rattle.gql_publish.specs.Verdict.{Refusal, unreadable, not_yet, broken}
-use Rattle.gql_syntax.specs.declared.error.ReadError.{ReadError}
-use Rattle.gql_syntax.specs.declared.error.ReadError.TheVariants as read_error
-use Rattle.gql_syntax.specs.declared.error.What.{What}
-use Rattle.gql_syntax.specs.declared.error.What.TheVariants as form
+use Rattle.gql_text_syntax.specs.declared.error.ReadError.{ReadError}
+use Rattle.gql_text_syntax.specs.declared.error.ReadError.TheVariants as read_error
+use Rattle.gql_text_syntax.specs.declared.error.What.{What}
+use Rattle.gql_text_syntax.specs.declared.error.What.TheVariants as form
 
 -- a reader's error, for the publisher
 abbrev pub read_as : ReadError → PublishError
@@ -38,6 +40,11 @@ Refuses Holds publish_error.OutOfMemory = Unit {0}
 
 -- ---- lines, each without its line feed
 
+-- the text is this line
+abbrev pub IsLine : String Global → Text → Type 0
+IsLine text line = string_bytes text ≡ line
+
+-- the word for a form that is not supported
 abbrev pub what_text : What → Text
 what_text form.Float = codes "float"
 what_text form.Extend = codes "extend"
@@ -47,6 +54,7 @@ what_text form.SchemaDecoration = codes "decorated schema block"
 what_text form.SubscriptionDecoration = codes "decorated subscription root"
 what_text form.Attribute = codes "misused attribute"
 
+-- what is wrong, and the byte where it stands
 abbrev pub at_line : Text → ℕ → Text
 at_line text at = text ++ (codes " at " ++ decimal at)
 
@@ -61,11 +69,13 @@ read_line (read_error.Duplicate name at) = at_line (codes "\"" ++ (name ++ codes
 read_line (read_error.ReservedName name at) = at_line (codes "\"" ++ (name ++ codes "\" is a reserved name")) at
 read_line read_error.OutOfMemory = codes "out of memory"
 
+-- the line of a refusal
 abbrev pub refusal_line : Refusal → Text
 refusal_line (unreadable error) = read_line error
 refusal_line not_yet = codes "not yet supported"
 refusal_line (broken fault) = sentence fault
 
+-- the line of an error
 abbrev pub line_of : PublishError → Text
 line_of (publish_error.NotUtf8 at) = read_line (read_error.NotUtf8 at)
 line_of (publish_error.Syntax at) = read_line (read_error.Syntax at)

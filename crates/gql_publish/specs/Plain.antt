@@ -3,20 +3,16 @@
 use Rattle.std.specs.Prelude.{Bool, true, false, not, ◌&&◌, ◌||◌, List, [], ◌∷◌, is_none, codes}
 use Rattle.std.specs.List.{list_all, list_any, flat_map}
 use Rattle.std.specs.Str.{bytes_eq}
-use Rattle.gql_meta.specs.Parts.{Text, is_among}
+use Rattle.gql_registry_meta.specs.Parts.{Text, is_among, is_empty}
 use Rattle.gql_publish.specs.Names.{are_distinct}
-use Rattle.gql_text.specs.Owners.{is_reserved}
+use Rattle.gql_text_lexer.specs.Forms.{is_reserved}
 use Rattle.gql_text.specs.declared.document.Definition.{Definition}
 use Rattle.gql_text.specs.declared.document.Definition.TheVariants.{SchemaBlock, Scalar, Object}
-use Rattle.gql_syntax.specs.declared.operation.OperationType.TheVariants.{Query}
-use Rattle.gql_syntax.specs.declared.operation.OperationType.{OperationType}
+use Rattle.gql_text_syntax.specs.declared.operation.OperationType.TheVariants.{Query}
+use Rattle.gql_text_syntax.specs.declared.operation.OperationType.{OperationType}
 use Rattle.gql_text.specs.declared.document.RootLine.{RootLine}
 use Rattle.gql_text.specs.declared.document.TypeHead.{TypeHead}
 use Rattle.gql_text.specs.declared.document.FieldDef.{FieldDef}
-
-abbrev pub is_empty : {X : Type 0} → List X → Bool
-is_empty [] = true
-is_empty (x ∷ xs) = false
 
 -- the name of the type that a definition defines
 abbrev pub type_names_of : Definition → List Text
@@ -24,15 +20,19 @@ type_names_of (Scalar head) = head.name ∷ []
 type_names_of (Object head implements fields) = head.name ∷ []
 type_names_of _ = []
 
+-- the names of the types, in document order
 abbrev pub type_names : List Definition → List Text
 type_names definitions = flat_map type_names_of definitions
 
+-- the name of a field, as a list
 abbrev pub field_names_of : FieldDef → List Text
 field_names_of field = field.name ∷ []
 
+-- the names of the fields, in document order
 abbrev pub field_names : List FieldDef → List Text
 field_names fields = flat_map field_names_of fields
 
+-- the root of queries: section 2.3
 abbrev pub is_query : OperationType → Bool
 is_query Query = true
 is_query _ = false
@@ -50,6 +50,7 @@ abbrev pub is_query_line : List RootLine → Bool
 is_query_line (root ∷ []) = is_query root.kind
 is_query_line _ = false
 
+-- a plain definition: a schema block with one query line, a bare scalar, a bare object with plain fields
 abbrev pub is_plain_definition : Definition → Bool
 is_plain_definition (SchemaBlock roots at) = is_query_line roots
 is_plain_definition (Scalar head) = is_bare head
@@ -57,6 +58,7 @@ is_plain_definition (Object head implements fields) =
     is_bare head && is_empty implements && list_all is_plain_field fields && are_distinct (field_names fields)
 is_plain_definition _ = false
 
+-- a schema block: section 3.3
 abbrev pub is_schema_block : Definition → Bool
 is_schema_block (SchemaBlock roots at) = true
 is_schema_block _ = false
@@ -76,7 +78,7 @@ first_root [] = []
 first_root (root ∷ roots) = root.name
 
 -- the name of the query root: that of the first schema block, or else `Query`
-abbrev pub query_of : List Definition → Text
-query_of [] = codes "Query"
-query_of (SchemaBlock roots at ∷ definitions) = first_root roots
-query_of (_ ∷ definitions) = query_of definitions
+abbrev pub root_query_name : List Definition → Text
+root_query_name [] = codes "Query"
+root_query_name (SchemaBlock roots at ∷ definitions) = first_root roots
+root_query_name (_ ∷ definitions) = root_query_name definitions

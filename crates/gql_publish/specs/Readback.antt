@@ -1,6 +1,6 @@
 -- What is written is read again, and tells what it was written of.
 use Rattle.std.specs.Prelude.{◌≡◌, ◌↔◌, ◌++◌, ℕ, List, Ok}
-use Rattle.gql_meta.specs.Parts.{Text}
+use Rattle.gql_registry_meta.specs.Parts.{Text}
 use Rattle.gql_text.specs.declared.document.Document.{Document}
 use Rattle.gql_publish.specs.View.{View, view_of}
 use Rattle.gql_publish.specs.Spelling.{directives_text, spell}

@@ -3,20 +3,18 @@
 use Rattle.std.specs.Prelude.{Bool, true, false, not, ◌&&◌, ◌||◌, List, [], ◌∷◌, Option, Some, None, codes}
 use Rattle.std.specs.List.{list_any}
 use Rattle.std.specs.Str.{bytes_eq}
-use Rattle.gql_meta.specs.Parts.{Text, is_among}
+use Rattle.gql_registry_meta.specs.Parts.{Text, is_among}
 use Rattle.gql_text.specs.declared.document.Definition.{Definition}
 use Rattle.gql_text.specs.declared.document.Definition.TheVariants.{Scalar, Object}
 use Rattle.gql_text.specs.declared.document.FieldDef.{FieldDef}
-use Rattle.gql_publish.specs.Plain.{is_empty, type_names}
-use Rattle.gql_rules.specs.Faults.{Fault, already_exists, not_found, query_root, empty_object}
-use Rattle.gql_rules.specs.Tests.{fault_if, first_of, first_in}
-use Rattle.gql_value.specs.TypeRefs.{reference, innermost}
+use Rattle.gql_registry_meta.specs.Parts.{is_empty}
+use Rattle.gql_check_rules.specs.Schema.{is_system_scalar}
+use Rattle.gql_publish.specs.Plain.{type_names}
+use Rattle.gql_check_rules.specs.Faults.{Fault, already_exists, not_found, query_root, empty_object}
+use Rattle.gql_check_rules.specs.Tests.{fault_if, first_of, first_in}
+use Rattle.gql_text_values.specs.TypeRefs.{reference, innermost}
 
 -- ---- names
-
-abbrev pub is_system_scalar : Text → Bool
-is_system_scalar name = bytes_eq name (codes "Boolean") || bytes_eq name (codes "Float") || bytes_eq name (codes "ID")
-    || bytes_eq name (codes "Int") || bytes_eq name (codes "String")
 
 -- the definition is of an object with this name
 abbrev pub is_object_named : Text → Definition → Bool
@@ -27,11 +25,13 @@ is_object_named name _ = false
 abbrev pub exists : (defined : List Text) → Text → Bool
 exists defined name = is_system_scalar name || is_among name defined
 
+-- an object of this name is defined: section 3.6
 abbrev pub is_object : List Definition → Text → Bool
 is_object definitions name = list_any (is_object_named name) definitions
 
 -- ---- the groups of rules
 
+-- no type of this name exists
 abbrev pub missing : (defined : List Text) → Text → Option Fault
 missing defined name = fault_if (not (exists defined name)) (not_found name)
 
@@ -45,6 +45,7 @@ name_fault _ = None
 abbrev pub field_missing : (defined : List Text) → FieldDef → Option Fault
 field_missing defined field = missing defined (innermost (reference field.ty))
 
+-- the types of an object's fields exist
 abbrev pub existence_fault : (defined : List Text) → Definition → Option Fault
 existence_fault defined (Object head implements fields) = first_in (field_missing defined) fields
 existence_fault defined _ = None
@@ -58,6 +59,7 @@ abbrev pub object_fault : Definition → Option Fault
 object_fault (Object head implements fields) = fault_if (is_empty fields) (empty_object head.name)
 object_fault _ = None
 
+-- the rules that a plain document can break, in the order of the table of rules
 abbrev pub tests : List Definition → (defined : List Text) → Text → List (Option Fault)
 tests definitions defined query =
     first_in name_fault definitions ∷
@@ -67,5 +69,5 @@ tests definitions defined query =
     first_in object_fault definitions ∷ []
 
 -- the first broken rule of the definitions, with this name of the query root
-abbrev pub first_fault : List Definition → Text → Option Fault
-first_fault definitions query = first_of (tests definitions (type_names definitions) query)
+abbrev pub first_plain_fault : List Definition → Text → Option Fault
+first_plain_fault definitions query = first_of (tests definitions (type_names definitions) query)

@@ -1,16 +1,18 @@
 -- The view of a document: what its canonical text tells, and nothing else. It holds no places, and is made of lists of
 -- definitions.
-use Rattle.std.specs.Prelude.{List, [], ◌∷◌, map, codes}
+use Rattle.std.specs.Prelude.{◌≡◌, List, [], ◌∷◌, map, codes}
 use Rattle.std.specs.List.{flat_map}
-use Rattle.gql_meta.specs.Parts.{Text, Field, Meta}
+use Rattle.gql_registry_meta.specs.Parts.{Text, Field, Meta}
 use Rattle.gql_registry.specs.Plain.{plain_field, plain_scalar, plain_object}
-use Rattle.gql_registry.specs.Registry.{with_types}
+use Rattle.gql_registry.specs.Registry.{types_of, with_types}
+use Rattle.gql_registry.specs.declared.registry.Registry.{Registry}
 use Rattle.gql_text.specs.declared.document.Definition.{Definition}
 use Rattle.gql_text.specs.declared.document.Definition.TheVariants.{Scalar, Object}
 use Rattle.gql_text.specs.declared.document.FieldDef.{FieldDef}
-use Rattle.gql_value.specs.TypeRefs.{type_text}
-use Rattle.gql_publish.specs.Plain.{query_of}
+use Rattle.gql_text_values.specs.TypeRefs.{type_text}
+use Rattle.gql_publish.specs.Plain.{root_query_name}
 
+-- an argument of a directive definition
 pub record ArgumentView : Type 0 where
   pub name : Text
   pub ty : Text
@@ -28,6 +30,7 @@ pub record View : Type 0 where
   pub types : List (Text × Meta)
   pub directives : List DirectiveView
 
+-- a field under its name, as it is registered
 abbrev pub field_entry : FieldDef → Text × Field
 field_entry field = (field.name, plain_field field.name (type_text field.ty))
 
@@ -37,6 +40,7 @@ metas_of (Scalar head) = plain_scalar head.name ∷ []
 metas_of (Object head implements fields) = plain_object head.name (map field_entry fields) ∷ []
 metas_of _ = []
 
+-- the types of all definitions, in document order
 abbrev pub metas : List Definition → List Meta
 metas definitions = flat_map metas_of definitions
 
@@ -44,9 +48,11 @@ metas definitions = flat_map metas_of definitions
 abbrev pub selections : List Text
 selections = codes "FIELD" ∷ codes "FRAGMENT_SPREAD" ∷ codes "INLINE_FRAGMENT" ∷ []
 
+-- the argument `if` of `@skip` and `@include`
 abbrev pub condition : List ArgumentView
 condition = record { name = codes "if"; ty = codes "Boolean!" } ∷ []
 
+-- `@include`: section 3.13.2
 abbrev pub include : DirectiveView
 include = record {
   name = codes "include";
@@ -55,6 +61,7 @@ include = record {
   locations = selections;
 }
 
+-- `@skip`: section 3.13.1
 abbrev pub skip : DirectiveView
 skip = record {
   name = codes "skip";
@@ -64,8 +71,17 @@ skip = record {
 }
 
 -- the system directives that each schema has
-abbrev pub system_directives : List DirectiveView
-system_directives = include ∷ skip ∷ []
+abbrev pub system_directive_views : List DirectiveView
+system_directive_views = include ∷ skip ∷ []
 
+-- the registry has these types more, each under its name
+abbrev pub IsWithTypes : {x g x' g' : _} → Registry x g → Registry x' g' → List Meta → Type 0
+IsWithTypes before now types = types_of now ≡ with_types (types_of before) types
+
+-- the view of a query root and of types, with the system directives
+abbrev pub plain_view : Text → List (Text × Meta) → View
+plain_view query types = record { query = query; types = types; directives = system_directive_views }
+
+-- the view of a plain document: its types in name order
 abbrev pub view_of : List Definition → View
-view_of definitions = record { query = query_of definitions; types = with_types [] (metas definitions); directives = system_directives }
+view_of definitions = plain_view (root_query_name definitions) (with_types [] (metas definitions))

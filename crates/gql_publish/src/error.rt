@@ -1,9 +1,9 @@
 //! Why bytes are not published.
 
-ghost use Rattle.std.specs.Prelude.{◌≡◌, ◌++◌, codes, IfOk, string_bytes};
+ghost use Rattle.std.specs.Prelude.{◌≡◌, ◌++◌, codes, IfOk};
 ghost use Rattle.gql_publish.specs.declared.error.PublishError.TheVariants.{OutOfMemory as publish_memory};
 ghost use Rattle.gql_publish.specs.Answers.{published_as};
-ghost use Rattle.gql_publish.specs.Errors.{read_as, what_text, at_line, line_of};
+ghost use Rattle.gql_publish.specs.Errors.{IsLine, read_as, what_text, at_line, line_of};
 
 use gql_dynamic::SchemaError;
 use gql_text::{OutOfMemory, ReadError, Text, What};
@@ -93,28 +93,30 @@ fn what_text(what: What) -> &'static str
 
 /// What is wrong, and its place.
 fn at_line(alloc: Global, what: &str, at: usize) -> Result<String, OutOfMemory>
-    ensures { IfOk result (λ line. string_bytes line ≡ at_line what.now at) }
+    ensures { IfOk result (λ line. IsLine line (at_line what.now at)) }
 {
     Ok(format!(in alloc; "{what} at {at}")?)
 }
 
 /// What is wrong with a name, and its place.
 fn name_line(alloc: Global, name: &str, what: &str, at: usize) -> Result<String, OutOfMemory>
-    ensures { IfOk result (λ line. string_bytes line ≡ at_line (codes "\"" ++ (name.now ++ what.now)) at) }
+    ensures { IfOk result (λ line.
+        IsLine line (at_line (codes "\"" ++ (name.now ++ what.now)) at)) }
 {
     Ok(format!(in alloc; "\"{name}{what} at {at}")?)
 }
 
 fn unsupported_line(alloc: Global, what: What, at: usize) -> Result<String, OutOfMemory>
-    ensures { IfOk result (λ line. string_bytes line ≡ at_line (codes "unsupported " ++ what_text what) at) }
+    ensures { IfOk result (λ line.
+        IsLine line (at_line (codes "unsupported " ++ what_text what) at)) }
 {
     let what = what_text(what);
     Ok(format!(in alloc; "unsupported {what} at {at}")?)
 }
 
-/// The line that tells an error, without a line feed.
+/// The line that reports an error, without a line feed.
 pub fn fault_line(alloc: Global, error: &PublishError) -> Result<String, OutOfMemory>
-    ensures { IfOk result (λ line. string_bytes line ≡ line_of error.now) }
+    ensures { IfOk result (λ line. IsLine line (line_of error.now)) }
 {
     match error {
         PublishError::NotUtf8(at) => at_line(alloc, "not UTF-8", *at),

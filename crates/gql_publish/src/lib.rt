@@ -15,5 +15,6 @@ pub use gql_dynamic::SchemaError;
 pub use gql_streams::{
     Failed, MemorySink, MemorySource, Sink, Source, StdSink, StdSource, SureSink, SureSource,
 };
+pub use gql_text::{OutOfMemory, ReadError, Text, What};
 pub use program::{LIMIT, run};
 pub use publishing::publish;

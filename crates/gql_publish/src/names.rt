@@ -1,7 +1,8 @@
 //! Names that were met.
 
 ghost use Rattle.std.specs.Prelude.{◌≡◌, ◌++◌, ◌∷◌, [], not, if◌then◌else◌, IfOk};
-ghost use Rattle.gql_meta.specs.Parts.{is_among};
+ghost use Rattle.gql_registry_meta.specs.Parts.{is_among};
+ghost use Rattle.gql_publish.specs.Names.{with_new};
 
 use gql_text::OutOfMemory;
 use indexmap::IndexSet;
@@ -16,7 +17,7 @@ pub struct Names<'a> {
 
 impl<'a> Model for Names<'a> {
     ghost use Rattle.std.specs.Prelude.{List, ℕ};
-    ghost use Rattle.gql_publish.specs.Names.{texts_in};
+    ghost use Rattle.gql_registry_meta.specs.Views.{texts_in};
 
     ghost Value = { List (List ℕ) };
 
@@ -43,7 +44,7 @@ impl<'a> Names<'a> {
     /// Adds a name, and answers whether it is new.
     pub fn add(&mut self, name: &'a str) -> Result<bool, OutOfMemory>
         ensures new { IfOk result (λ new. new ≡ not (is_among name.now self.old)) }
-        ensures names { IfOk result (λ new. self.new ≡ (if new then self.old ++ name.now ∷ [] else self.old)) }
+        ensures names { IfOk result (λ new. self.new ≡ with_new new self.old (name.now ∷ [])) }
     {
         Ok(self.met.insert(name)?)
     }

@@ -3,19 +3,12 @@
 ghost use Rattle.std.specs.Prelude.{◌≡◌, ◌++◌, if◌then◌else◌, true, false, IfOk, MatchOption};
 ghost use Rattle.std.specs.List.{list_all, list_any};
 ghost use Rattle.gql_publish.specs.Plain.{type_names_of, type_names, field_names_of, field_names, is_query, is_bare, is_plain_field, is_query_line, is_plain_definition, is_schema_block, has_only_query, are_plain};
-ghost use Rattle.gql_publish.specs.Names.{are_new, are_distinct};
-ghost use Rattle.gql_text.specs.Owners.{is_reserved};
+ghost use Rattle.gql_publish.specs.Names.{are_new, are_distinct, with_new};
 
 use crate::names::Names;
 use gql_text::{Definition, FieldDef, OperationType, OutOfMemory, RootLine, TypeHead};
+use gql_text_lexer::is_reserved;
 use std::alloc::Global;
-
-#[tactic(auto, unfolding(gql_text::specs::Owners::is_reserved))]
-fn is_reserved(name: &str) -> bool
-    ensures { result ≡ is_reserved name.now }
-{
-    name.as_bytes().starts_with(b"__")
-}
 
 fn is_bare(head: &TypeHead) -> bool
     ensures { result ≡ is_bare head.now }
@@ -55,7 +48,8 @@ fn are_plain_fields(fields: &[FieldDef]) -> bool
 
 fn add_field<'d>(names: &mut Names<'d>, field: &'d FieldDef) -> Result<bool, OutOfMemory>
     ensures new { IfOk result (λ new. new ≡ are_new names.old (field_names_of field.now)) }
-    ensures names { IfOk result (λ new. names.new ≡ (if new then names.old ++ field_names_of field.now else names.old)) }
+    ensures names { IfOk result (λ new.
+        names.new ≡ with_new new names.old (field_names_of field.now)) }
 {
     names.add(field.name.as_str())
 }
@@ -120,7 +114,8 @@ fn has_only_query(definitions: &[Definition], names: &Names<'_>) -> bool
 
 fn add_type<'d>(names: &mut Names<'d>, definition: &'d Definition) -> Result<bool, OutOfMemory>
     ensures new { IfOk result (λ new. new ≡ are_new names.old (type_names_of definition.now)) }
-    ensures names { IfOk result (λ new. names.new ≡ (if new then names.old ++ type_names_of definition.now else names.old)) }
+    ensures names { IfOk result (λ new.
+        names.new ≡ with_new new names.old (type_names_of definition.now)) }
 {
     match definition {
         Definition::Scalar(head) => names.add(head.name.as_str()),
@@ -134,7 +129,8 @@ fn distinct_type_names<'d>(
     alloc: Global,
     definitions: &'d [Definition],
 ) -> Result<Option<Names<'d>>, OutOfMemory>
-    ensures { IfOk result (λ found. MatchOption found (are_distinct (type_names definitions.now) ≡ false)
+    ensures { IfOk result (λ found. MatchOption found
+        (are_distinct (type_names definitions.now) ≡ false)
         (λ names. (are_distinct (type_names definitions.now) ≡ true) × (names ≡ type_names definitions.now))) }
 {
     let mut names = Names::new(alloc);

@@ -1,11 +1,11 @@
 //! The canonical text of a registry.
 
-ghost use Rattle.std.specs.Prelude.{◌≡◌, ◌++◌, IfOk, OnOk, string_bytes};
+ghost use Rattle.std.specs.Prelude.{◌≡◌, IfOk, OnOk, string_bytes};
 ghost use Rattle.std.specs.List.{flat_map};
-ghost use Rattle.gql_meta.specs.Views.{meta_of, field_of, entries_of};
+ghost use Rattle.gql_registry_meta.specs.Views.{meta_of, field_of, fields_in};
 ghost use Rattle.gql_registry.specs.Registry.{types_of, query_of};
-ghost use Rattle.gql_publish.specs.View.{system_directives};
-ghost use Rattle.gql_publish.specs.Spelling.{field_text, fields_text, body_text, meta_text, types_text, directives_text, schema_text, spell};
+ghost use Rattle.gql_publish.specs.View.{plain_view, system_directive_views};
+ghost use Rattle.gql_publish.specs.Spelling.{Grows, field_text, fields_text, body_text, meta_text, types_text, directives_text, schema_text, spell};
 
 use gql_registry::{MetaField, MetaType, Registry};
 use gql_text::OutOfMemory;
@@ -25,7 +25,7 @@ directive @skip(if: Boolean!) on FIELD | FRAGMENT_SPREAD | INLINE_FRAGMENT
 
 /// Writes the parts, one after another.
 fn push_all(out: &mut String, parts: &[&str]) -> Result<(), AllocError>
-    ensures { OnOk result (string_bytes out.new ≡ string_bytes out.old ++ flat_map (λ part. part.now) parts.now) }
+    ensures { OnOk result (Grows out.old out.new (flat_map (λ part. part.now) parts.now)) }
 {
     for part in parts {
         out.push_str(part)?;
@@ -34,7 +34,7 @@ fn push_all(out: &mut String, parts: &[&str]) -> Result<(), AllocError>
 }
 
 fn push_field(out: &mut String, field: &MetaField) -> Result<(), AllocError>
-    ensures { OnOk result (string_bytes out.new ≡ string_bytes out.old ++ field_text (field_of field.now)) }
+    ensures { OnOk result (Grows out.old out.new (field_text (field_of field.now))) }
 {
     push_all(
         out,
@@ -44,7 +44,7 @@ fn push_field(out: &mut String, field: &MetaField) -> Result<(), AllocError>
 
 #[tactic(auto, using(crate::proofs::Texts::flat_map_entries))]
 fn push_fields(out: &mut String, fields: &IndexMap<String, MetaField>) -> Result<(), AllocError>
-    ensures { OnOk result (string_bytes out.new ≡ string_bytes out.old ++ fields_text (entries_of field_of fields.now.entries)) }
+    ensures { OnOk result (Grows out.old out.new (fields_text (fields_in fields.now))) }
 {
     for field in fields.values() {
         push_field(out, field)?;
@@ -54,7 +54,7 @@ fn push_fields(out: &mut String, fields: &IndexMap<String, MetaField>) -> Result
 
 #[tactic(auto, using(crate::proofs::Texts::body_text_some))]
 fn push_body(out: &mut String, fields: &IndexMap<String, MetaField>) -> Result<(), AllocError>
-    ensures { OnOk result (string_bytes out.new ≡ string_bytes out.old ++ body_text (entries_of field_of fields.now.entries)) }
+    ensures { OnOk result (Grows out.old out.new (body_text (fields_in fields.now))) }
 {
     if fields.is_empty() {
         return Ok(());
@@ -65,7 +65,7 @@ fn push_body(out: &mut String, fields: &IndexMap<String, MetaField>) -> Result<(
 }
 
 fn push_type(out: &mut String, ty: &MetaType) -> Result<(), AllocError>
-    ensures { OnOk result (string_bytes out.new ≡ string_bytes out.old ++ meta_text (meta_of ty.now)) }
+    ensures { OnOk result (Grows out.old out.new (meta_text (meta_of ty.now))) }
 {
     match ty {
         MetaType::Scalar { name, .. } => push_all(out, &["scalar ", name.as_str(), "\n\n"]),
@@ -81,7 +81,7 @@ fn push_type(out: &mut String, ty: &MetaType) -> Result<(), AllocError>
 
 #[tactic(auto, using(crate::proofs::Texts::flat_map_entries))]
 fn push_types(out: &mut String, registry: &Registry) -> Result<(), AllocError>
-    ensures { OnOk result (string_bytes out.new ≡ string_bytes out.old ++ types_text (types_of registry.now)) }
+    ensures { OnOk result (Grows out.old out.new (types_text (types_of registry.now))) }
 {
     for ty in registry.types().values() {
         push_type(out, ty)?;
@@ -90,20 +90,21 @@ fn push_types(out: &mut String, registry: &Registry) -> Result<(), AllocError>
 }
 
 fn push_system_directives(out: &mut String) -> Result<(), AllocError>
-    ensures { OnOk result (string_bytes out.new ≡ string_bytes out.old ++ directives_text system_directives) }
+    ensures { OnOk result (Grows out.old out.new (directives_text system_directive_views)) }
 {
     out.push_str(SYSTEM_DIRECTIVES)
 }
 
 fn push_schema(out: &mut String, query: &str) -> Result<(), AllocError>
-    ensures { OnOk result (string_bytes out.new ≡ string_bytes out.old ++ schema_text query.now) }
+    ensures { OnOk result (Grows out.old out.new (schema_text query.now)) }
 {
     push_all(out, &["schema {\n\tquery: ", query, "\n}\n"])
 }
 
 /// The text of a registry, of the system directives and of the schema block.
 pub(crate) fn printed(alloc: Global, registry: &Registry) -> Result<String, OutOfMemory>
-    ensures { IfOk result (λ text. string_bytes text ≡ spell (record { query = query_of registry.now; types = types_of registry.now; directives = system_directives })) }
+    ensures { IfOk result (λ text.
+        string_bytes text ≡ spell (plain_view (query_of registry.now) (types_of registry.now))) }
 {
     let mut out = String::new(alloc);
     push_types(&mut out, registry)?;

@@ -1,17 +1,12 @@
-//! The top call: reads the input, takes the verdict, writes the text, and tells what went wrong.
+//! The top call: reads the input, takes the verdict, writes the text, and reports what went wrong.
 
-ghost use Rattle.std.specs.Prelude.{◌≡◌, ◌≢◌, ◌≤◌, ◌⊎◌, ◌++◌, ◌∷◌, [], List, ℕ, IsTrue, ◌↔◌, IfOk, IfErr, OnOk, Ok, Err, string_bytes};
-ghost use Rattle.std.specs.Io.KnownBytes.{Keeps};
-ghost use Rattle.gql_streams.specs.Causes.{Rose};
-ghost use Rattle.gql_streams.specs.Reading.{GivesMore};
-ghost use Rattle.gql_streams.specs.Writing.{AppendsOrFails};
+ghost use Rattle.std.specs.Prelude.{◌≡◌, ◌⊎◌, ◌++◌, ◌∷◌, [], List, ℕ, IsTrue, ◌↔◌, IfOk, IfErr, OnOk, Ok, Err, string_bytes};
 ghost use Rattle.gql_text.specs.declared.document.Document.{Document};
 ghost use Rattle.gql_publish.specs.Errors.{line_of};
-ghost use Rattle.gql_publish.specs.Verdict.{HasVerdict};
-ghost use Rattle.gql_publish.specs.View.{view_of};
-ghost use Rattle.gql_publish.specs.Spelling.{spell};
-ghost use Rattle.gql_publish.specs.Endings.{GoodWords, Publishes, PublishesFront, IsLine, TellsValid};
-ghost use Rattle.gql_publish.specs.Troubles.{Explains, IsTroubleWith, TellsError};
+ghost use Rattle.gql_publish.specs.Verdict.{HasVerdict, IsTextOf};
+ghost use Rattle.gql_streams.specs.Writing.{GetsOrFails};
+ghost use Rattle.gql_publish.specs.Endings.{GoodWords, Publishes, EndsWith, CanPublish, streams};
+ghost use Rattle.gql_publish.specs.Troubles.{Explains, IsTroubleWith, ReportsError};
 
 use crate::error::{PublishError, fault_line};
 use crate::publishing::publish;
@@ -25,7 +20,7 @@ pub const LIMIT: u32 = 16_777_216;
 /// Why a run did not end with its text written.
 #[derive(Debug, Drop)]
 enum Trouble {
-    /// The input is refused, with the line that tells it.
+    /// The input is refused, with the line that reports it.
     Refused(String),
     BadWords,
     ReadFault,
@@ -50,7 +45,7 @@ impl Trouble {
         }
     }
 
-    /// What is told, with its line feed.
+    /// What is reported, with its line feed.
     fn line(&self) -> &str
         ensures { result.now ≡ trouble_line self.now }
     {
@@ -80,7 +75,7 @@ fn refusal_text(alloc: Global, error: &PublishError) -> Result<String, OutOfMemo
 }
 
 fn trouble_of(alloc: Global, error: &PublishError) -> Trouble
-    ensures { TellsError error.now result }
+    ensures { ReportsError error.now result }
 {
     match error {
         PublishError::OutOfMemory => Trouble::OutOfMemory,
@@ -92,7 +87,7 @@ fn trouble_of(alloc: Global, error: &PublishError) -> Trouble
 }
 
 fn text_of(alloc: Global, bytes: &[u8]) -> Result<String, Trouble>
-    ensures text { IfOk result (λ text. (document : Document) × HasVerdict bytes.now (Ok document) × (string_bytes text ≡ spell (view_of document.definitions))) }
+    ensures text { IfOk result (λ text. IsTextOf (string_bytes text) bytes.now) }
     ensures refused { IfErr result (IsTroubleWith bytes.now) }
 {
     match publish(alloc, bytes) {
@@ -108,9 +103,10 @@ fn publish_input<S: Source, K: Sink>(
     input: &mut S,
     output: &mut K,
 ) -> Result<(), Trouble>
-    ensures done { OnOk result (Publishes (S.left input.old) (S.left input.new) (K.written output.old) (K.written output.new) (K.flushed output.new)) }
-    ensures words { result ≢ Err Trouble.BadWords → result ≢ Err Trouble.OutOfMemory → GoodWords words.now }
-    ensures trouble { IfErr result (Explains words.now (S.left input.old) (S.left input.new) (S.faults input.old) (S.faults input.new) (K.written output.old) (K.written output.new) (K.faults output.old) (K.faults output.new)) }
+    ensures done { OnOk result (GoodWords words.now × ((document : Document) × Publishes
+        (S.state input.old) (S.state input.new) (K.state output.old) (K.state output.new) document)) }
+    ensures trouble { IfErr result (Explains words.now
+        (S.state input.old) (S.state input.new) (K.state output.old) (K.state output.new)) }
 {
     if !are_good(words) {
         return Err(Trouble::BadWords);
@@ -133,12 +129,12 @@ fn publish_input<S: Source, K: Sink>(
 
 /// Writes a line, whose last byte is a line feed.
 fn tell<F: Sink>(faults: &mut F, line: &str)
-    ensures { AppendsOrFails (F.written faults.old) (F.written faults.new) (F.faults faults.old) (F.faults faults.new) line.now }
+    ensures { GetsOrFails (F.state faults.old) (F.state faults.new) line.now }
 {
     let _ = write_all(faults, line.as_bytes());
 }
 
-/// Reads the input to its end, writes the canonical text of its document to `output`, tells a trouble on `faults`, and
+/// Reads the input to its end, writes the canonical text of its document to `output`, reports a trouble on `faults`, and
 /// gives the status:
 ///
 /// | status | ending | line |
@@ -147,8 +143,8 @@ fn tell<F: Sink>(faults: &mut F, line: &str)
 /// | 1 | the document is refused | that of `fault_line` |
 /// | 2 | bad words: each word is one today | `bad words` |
 /// | 3 | the source failed | `read fault` |
-/// | 4 | the output failed, and got a front of the text | `write fault` |
-/// | 5 | want of memory | `out of memory` |
+/// | 4 | the output failed, and got a prefix of the text | `write fault` |
+/// | 5 | memory ran out | `out of memory` |
 /// | 6 | the source gave a byte after the first 16,777,216 | `input too long` |
 ///
 /// The text is whole before its first byte is written. At 1, 2, 3, 5 and 6 `output` got nothing.
@@ -159,28 +155,17 @@ pub fn run<S: Source, K: Sink, F: Sink>(
     output: &mut K,
     faults: &mut F,
 ) -> u8
-    ensures status { result ≤ 6 }
-    ensures words { result ≢ 2 → result ≢ 5 → GoodWords words.now }
-    ensures bad_words { result ≡ 2 → ¬ GoodWords words.now }
 
-    // The whole input is a valid document, and the output got the spelling of its view, flushed. That text is read again,
-    // and it tells the view.
-    ensures done { result ≡ 0 → Publishes (S.left input.old) (S.left input.new)
-        (K.written output.old) (K.written output.new) (K.flushed output.new) }
+    // Status 0 comes only where the input is a valid document, and the output then got exactly the spelling of its view;
+    // every other ending has its cause. What the streams got is said with each ending.
+    ensures ends { EndsWith words.now result
+        (streams (S.state input.old) (K.state output.old) (F.state faults.old))
+        (streams (S.state input.new) (K.state output.new) (F.state faults.new)) }
 
-    // Every other ending has its cause. That of status 1 stands with its line.
-    ensures read_fault { result ≡ 3 → Rose (S.faults input.old) (S.faults input.new) }
-    ensures write_fault { result ≡ 4 → Rose (K.faults output.old) (K.faults output.new) }
-    ensures too_long { result ≡ 6 → GivesMore (S.left input.old) (S.left input.new) 16777216 }
-
-    ensures front { result ≡ 4 → PublishesFront (S.left input.old) (S.left input.new) (K.written output.old) (K.written output.new) }
-    ensures untouched { result ≢ 0 → result ≢ 4 → Keeps (K.written output.old) (K.written output.new) }
-    ensures line { (line : List ℕ) × IsLine (S.left input.old) (S.left input.new) result line
-        × AppendsOrFails (F.written faults.old) (F.written faults.new) (F.faults faults.old) (F.faults faults.new) line }
-
-    // A valid document that is not too long is published, unless the outside fails or memory is wanting.
-    ensures complete { TellsValid (S.left input.old) 16777216 → GoodWords words.now
-        → ¬ Rose (S.faults input.old) (S.faults input.new) → ¬ Rose (K.faults output.old) (K.faults output.new)
+    // A valid document that is not too long is published, unless the outside fails or memory runs out.
+    ensures complete { CanPublish words.now
+        (streams (S.state input.old) (K.state output.old) (F.state faults.old))
+        (streams (S.state input.new) (K.state output.new) (F.state faults.new))
         → (result ≡ 0) ⊎ (result ≡ 5) }
 {
     match publish_input(alloc, words, input, output) {

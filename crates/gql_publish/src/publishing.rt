@@ -3,10 +3,10 @@
 ghost use Rattle.std.specs.Prelude.{◌≡◌, IfOk, IfErr, Ok, Err, string_bytes};
 ghost use Rattle.gql_text.specs.declared.document.Document.{Document};
 ghost use Rattle.gql_text.specs.Verdict.{Spells};
-ghost use Rattle.gql_publish.specs.Plain.{first_root, query_of};
+ghost use Rattle.gql_publish.specs.Plain.{first_root, root_query_name};
 ghost use Rattle.gql_publish.specs.View.{view_of};
 ghost use Rattle.gql_publish.specs.Spelling.{spell};
-ghost use Rattle.gql_publish.specs.Verdict.{HasVerdict};
+ghost use Rattle.gql_publish.specs.Verdict.{HasVerdict, IsTextOf};
 ghost use Rattle.gql_publish.specs.Errors.{Refuses};
 ghost use Rattle.gql_publish.specs.Readback.{IsReadBack, TellsView};
 ghost use Rattle.gql_publish.specs.Outcome.{outcome, Gives};
@@ -31,8 +31,8 @@ fn first_root(roots: &[RootLine]) -> &str
 
 /// The name of the query root: that of the first schema block, or else `Query`.
 #[tactic(auto, using(crate::proofs::Roots::query_step))]
-fn query_of(definitions: &[Definition]) -> &str
-    ensures { result.now ≡ query_of definitions.now }
+fn root_query_name(definitions: &[Definition]) -> &str
+    ensures { result.now ≡ root_query_name definitions.now }
 {
     for definition in definitions {
         if let Definition::SchemaBlock { roots, .. } = definition {
@@ -48,7 +48,7 @@ fn publish_definitions(alloc: Global, definitions: &[Definition]) -> Result<Stri
     let Some(names) = plain_type_names(alloc, definitions)? else {
         return Err(PublishError::NotYet);
     };
-    let query = query_of(definitions);
+    let query = root_query_name(definitions);
     if let Err(error) = check(alloc, definitions, &names, query) {
         return Err(PublishError::from(error));
     }
@@ -62,16 +62,21 @@ fn publish_definitions(alloc: Global, definitions: &[Definition]) -> Result<Stri
 /// A reader's fault comes exactly where the bytes are no document, with its place. `NotYet` comes exactly where they are
 /// one that is not plain, and `Schema` exactly where they are a plain one that breaks a rule, with the first such rule.
 pub fn publish(alloc: Global, bytes: &[u8]) -> Result<String, PublishError>
-    ensures text { IfOk result (λ text. (document : Document) × HasVerdict bytes.now (Ok document) × (string_bytes text ≡ spell (view_of document.definitions))) }
+    ensures text { IfOk result (λ text. IsTextOf (string_bytes text) bytes.now) }
     ensures refused { IfErr result (Refuses (λ refusal. HasVerdict bytes.now (Err refusal))) }
 
     // The text without the definitions of the system directives is itself a valid plain document with the same query root
     // and the same types; and each valid plain document has this text exactly where it has this view.
-    ensures read_back { IfOk result (λ text. (document : Document) → HasVerdict bytes.now (Ok document) → IsReadBack (string_bytes text) (view_of document.definitions)) }
-    ensures one_view { IfOk result (λ text. (document : Document) → HasVerdict bytes.now (Ok document) → TellsView (string_bytes text) (view_of document.definitions)) }
+    ensures read_back { IfOk result (λ text.
+        (document : Document) → HasVerdict bytes.now (Ok document)
+        → IsReadBack (string_bytes text) (view_of document.definitions)) }
+    ensures one_view { IfOk result (λ text.
+        (document : Document) → HasVerdict bytes.now (Ok document)
+        → TellsView (string_bytes text) (view_of document.definitions)) }
 
     // What becomes of the definitions of a document that the bytes spell is the answer, unless memory runs out.
-    ensures only { (document : Document) → Spells document bytes.now → Gives result (outcome document.definitions) }
+    ensures only { (document : Document) → Spells document bytes.now
+        → Gives result (outcome document.definitions) }
 {
     match read_sdl(alloc, bytes) {
         Ok(document) => publish_definitions(alloc, document.definitions.as_slice()),

@@ -2,13 +2,13 @@
 
 ghost use Rattle.std.specs.Prelude.{◌≡◌, ◌++◌, ◌∷◌, [], IfOk, OnOk, map, true, false};
 ghost use Rattle.std.specs.List.{list_all};
-ghost use Rattle.gql_meta.specs.Views.{entries_of, field_of, meta_of};
-ghost use Rattle.gql_meta.specs.Parts.{is_among};
-ghost use Rattle.gql_registry.specs.Registry.{types_of, query_of as query_name, with_types};
+ghost use Rattle.gql_registry_meta.specs.Views.{fields_in, field_of, meta_of};
+ghost use Rattle.gql_registry_meta.specs.Parts.{is_among};
+ghost use Rattle.gql_registry.specs.Registry.{query_of as query_name};
 ghost use Rattle.gql_registry.specs.Plain.{plain_scalar, plain_object};
 ghost use Rattle.gql_publish.specs.Names.{keys_in, are_distinct};
 ghost use Rattle.gql_publish.specs.Plain.{field_names, is_plain_definition};
-ghost use Rattle.gql_publish.specs.View.{field_entry, metas_of, metas};
+ghost use Rattle.gql_publish.specs.View.{IsWithTypes, field_entry, metas_of, metas};
 
 use gql_registry::{CacheControl, Deprecation, MetaField, MetaType, Registry};
 use gql_text::{Definition, FieldDef, OutOfMemory};
@@ -43,8 +43,9 @@ fn add_field(
     fields: &mut IndexMap<String, MetaField>,
     field: &FieldDef,
 ) -> Result<(), OutOfMemory>
-    requires { is_among field.now.name (keys_in (entries_of field_of fields.old.entries)) ≡ false }
-    ensures { OnOk result (entries_of field_of fields.new.entries ≡ entries_of field_of fields.old.entries ++ field_entry field.now ∷ []) }
+    requires { is_among field.now.name (keys_in (fields_in fields.old)) ≡ false }
+    ensures { OnOk result (
+        fields_in fields.new ≡ fields_in fields.old ++ field_entry field.now ∷ []) }
 {
     let name = String::from_str(alloc, field.name.as_str())?;
     fields.insert(name, meta_field(alloc, field)?)?;
@@ -56,7 +57,7 @@ fn meta_fields(
     fields: &[FieldDef],
 ) -> Result<IndexMap<String, MetaField>, OutOfMemory>
     requires { are_distinct (field_names fields.now) ≡ true }
-    ensures { IfOk result (λ made. entries_of field_of made.entries ≡ map field_entry fields.now) }
+    ensures { IfOk result (λ made. fields_in made ≡ map field_entry fields.now) }
 {
     let mut made = IndexMap::new(alloc);
     for field in fields {
@@ -88,7 +89,7 @@ fn plain_object(
     name: &str,
     fields: IndexMap<String, MetaField>,
 ) -> Result<MetaType, OutOfMemory>
-    ensures { IfOk result (λ ty. meta_of ty ≡ plain_object name.now (entries_of field_of fields.entries)) }
+    ensures { IfOk result (λ ty. meta_of ty ≡ plain_object name.now (fields_in fields)) }
 {
     Ok(MetaType::Object {
         name: String::from_str(alloc, name)?,
@@ -115,7 +116,7 @@ fn add_type(
     definition: &Definition,
 ) -> Result<(), OutOfMemory>
     requires { is_plain_definition definition.now ≡ true }
-    ensures types { OnOk result (types_of registry.new ≡ with_types (types_of registry.old) (metas_of definition.now)) }
+    ensures types { OnOk result (IsWithTypes registry.old registry.new (metas_of definition.now)) }
     ensures query { query_name registry.new ≡ query_name registry.old }
 {
     match definition {
@@ -138,7 +139,7 @@ fn add_types(
     definitions: &[Definition],
 ) -> Result<(), OutOfMemory>
     requires { list_all is_plain_definition definitions.now ≡ true }
-    ensures types { OnOk result (types_of registry.new ≡ with_types (types_of registry.old) (metas definitions.now)) }
+    ensures types { OnOk result (IsWithTypes registry.old registry.new (metas definitions.now)) }
     ensures query { query_name registry.new ≡ query_name registry.old }
 {
     for definition in definitions {
@@ -155,7 +156,7 @@ pub(crate) fn register(
     query: &str,
 ) -> Result<(), OutOfMemory>
     requires { list_all is_plain_definition definitions.now ≡ true }
-    ensures types { OnOk result (types_of registry.new ≡ with_types (types_of registry.old) (metas definitions.now)) }
+    ensures types { OnOk result (IsWithTypes registry.old registry.new (metas definitions.now)) }
     ensures query { OnOk result (query_name registry.new ≡ query.now) }
 {
     registry.set_query_type(query)?;

@@ -1,16 +1,18 @@
 //! The rules of a schema, in their order. Each function answers the first broken rule of its group.
 
 ghost use Rattle.std.specs.Prelude.{◌≡◌};
-ghost use Rattle.gql_rules.specs.Faults.{already_exists};
-ghost use Rattle.gql_rules.specs.Tests.{fault_if, first_in, first_of};
+ghost use Rattle.gql_check_rules.specs.Faults.{already_exists};
+ghost use Rattle.gql_check_rules.specs.Tests.{fault_if, first_in, first_of};
 ghost use Rattle.gql_dynamic.specs.Errors.{Tells};
-ghost use Rattle.gql_publish.specs.Rules.{is_system_scalar, exists, is_object_named, is_object, missing, name_fault, field_missing, existence_fault, root_fault, object_fault, tests};
+ghost use Rattle.gql_check_rules.specs.Schema.{is_system_scalar};
+ghost use Rattle.gql_publish.specs.Rules.{exists, is_object_named, is_object, missing, name_fault, field_missing, existence_fault, root_fault, object_fault, tests};
 
 use crate::names::Names;
 use gql_dynamic::SchemaError;
 use gql_text::{Definition, FieldDef};
 use std::alloc::Global;
 
+#[tactic(auto, unfolding(gql_check_rules::specs::Schema::is_system_scalar))]
 fn is_system_scalar(name: &str) -> bool
     ensures { result ≡ is_system_scalar name.now }
 {

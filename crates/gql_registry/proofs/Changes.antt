@@ -12,16 +12,17 @@ use Rattle.std.specs.BTreeMap.{insert_entry}
 use Rattle.std.specs.Ordering.{match_ordering, is_eq}
 use Rattle.std.proofs.lemmas.Map.Text.{is_eq-slice_cmp}
 use Rattle.std.proofs.lemmas.Slice.Eq.{bytes_eq-Decides}
-use Rattle.gql_meta.specs.Parts.{Text, at_text, is_among, text_cmp, Meta, name_of}
-use Rattle.gql_meta.specs.Views.{text_of, entries_of}
+use Rattle.gql_registry_meta.specs.Parts.{Text, at_text, is_among, text_cmp, Meta, name_of}
+use Rattle.gql_registry_meta.specs.Views.{text_of, entries_of}
 use Rattle.indexmap.specs.IndexSet.{IndexSet}
-use Rattle.gql_registry.specs.Registry.{HasOnce, names_of, listed, with_name, with_list, with_implements, with_all_implements, with_type}
-use Rattle.gql_meta.proofs.Entries.{found_at, written}
+use Rattle.gql_registry.specs.Registry.{HasOnce, names_of, implements_listed, with_name, with_list, with_implements, with_all_implements, with_type}
+use Rattle.gql_registry_meta.proofs.Entries.{found_at, written}
 
 own_text : (t : Text) → bytes_eq t t ≡ true
 own_text t = (bytes_eq-Decides t t).1 refl
 
-same_text : (t u : Text) (o : Ordering) → text_cmp t u ≡ o → bytes_eq t u ≡ is_eq o
+-- texts that are equal in order are equal
+pub same_text : (t u : Text) (o : Ordering) → text_cmp t u ≡ o → bytes_eq t u ≡ is_eq o
 same_text t u o p = sym (is_eq-slice_cmp t u) ∙ ap is_eq p
 
 module _ {X : Type 0} (t : Text) where
@@ -174,7 +175,7 @@ module _ (t : Text) (lists : List (Text × List Text)) where
   pub at_text-with_list : (v : List Text) → at_text t (with_list t lists v) ≡ Some v
   at_text-with_list v = at_text-with_list-by v (at_text t lists) refl
 
-  pub listed-with_list : (v : List Text) → listed t (with_list t lists v) ≡ v
+  pub listed-with_list : (v : List Text) → implements_listed t (with_list t lists v) ≡ v
   listed-with_list v = ap (λ o. unwrap_or o []) (at_text-with_list v)
 
   set-with_list-by : (v w : List Text) (o : Option (List Text)) → at_text t lists ≡ o
@@ -191,15 +192,15 @@ pub with_list-twice : (t : Text) (lists : List (Text × List Text)) (v w : List 
 with_list-twice t lists v w = with_list-some t (with_list t lists v) v w (at_text-with_list t lists v) ∙ set-with_list t lists v w
 
 -- several interfaces at once
-pub all_at_once : (t : Text) (lists : List (Text × List Text)) (i : Text) (is : List Text) → with_all_implements t lists (i ∷ is) ≡ with_list t lists (fold with_name (listed t lists) (i ∷ is))
+pub all_at_once : (t : Text) (lists : List (Text × List Text)) (i : Text) (is : List Text) → with_all_implements t lists (i ∷ is) ≡ with_list t lists (fold with_name (implements_listed t lists) (i ∷ is))
 all_at_once t lists i [] = refl
 all_at_once t lists i (j ∷ is) =
     all_at_once t (with_implements t lists i) j is
-    ∙ ap (λ l. with_list t (with_implements t lists i) (fold with_name l (j ∷ is))) (listed-with_list t lists (with_name (listed t lists) i))
-    ∙ with_list-twice t lists (with_name (listed t lists) i) (fold with_name (with_name (listed t lists) i) (j ∷ is))
+    ∙ ap (λ l. with_list t (with_implements t lists i) (fold with_name l (j ∷ is))) (listed-with_list t lists (with_name (implements_listed t lists) i))
+    ∙ with_list-twice t lists (with_name (implements_listed t lists) i) (fold with_name (with_name (implements_listed t lists) i) (j ∷ is))
 
 -- the same for the names of a set that is not empty
-pub all_names : (t : Text) (lists : List (Text × List Text)) (ks : List (String Global)) → (length ks ≡ 0 → ⊥) → with_all_implements t lists (map text_of ks) ≡ with_list t lists (fold with_name (listed t lists) (map text_of ks))
+pub all_names : (t : Text) (lists : List (Text × List Text)) (ks : List (String Global)) → (length ks ≡ 0 → ⊥) → with_all_implements t lists (map text_of ks) ≡ with_list t lists (fold with_name (implements_listed t lists) (map text_of ks))
 all_names t lists [] some = absurd (some refl)
 all_names t lists (k ∷ ks) some = all_at_once t lists (text_of k) (map text_of ks)
 
@@ -229,5 +230,5 @@ begun_list t lists i none =
 -- ---- a name once
 
 -- the list of a type has a name once, where that was put
-pub put_once : (t : Text) (lists new : List (Text × List Text)) (v : List Text) (i : Text) → new ≡ with_list t lists v → HasOnce v i → HasOnce (listed t new) i
-put_once t lists new v i e once = subst (λ names. HasOnce names i) (sym (ap (listed t) e ∙ listed-with_list t lists v)) once
+pub put_once : (t : Text) (lists new : List (Text × List Text)) (v : List Text) (i : Text) → new ≡ with_list t lists v → HasOnce v i → HasOnce (implements_listed t new) i
+put_once t lists new v i e once = subst (λ names. HasOnce names i) (sym (ap (implements_listed t) e ∙ listed-with_list t lists v)) once

@@ -7,9 +7,9 @@ use Rattle.std.specs.Str.{bytes_eq}
 use Rattle.std.specs.String.{string_eq}
 use Rattle.std.proofs.lemmas.Slice.Eq.{bytes_eq-Decides}
 use Rattle.indexmap.specs.IndexSet.{insert_key}
-use Rattle.gql_meta.specs.Parts.{Text}
-use Rattle.gql_meta.specs.Views.{text_of}
-use Rattle.gql_meta.proofs.Names.{names_with, names_distinct}
+use Rattle.gql_registry_meta.specs.Parts.{Text}
+use Rattle.gql_registry_meta.specs.Views.{text_of}
+use Rattle.gql_registry_meta.proofs.Names.{names_with, names_distinct}
 use Rattle.gql_registry.specs.Registry.{HasOnce}
 
 or_true : (b : Bool) → b || true ≡ true

@@ -10,14 +10,14 @@ use Rattle.std.specs.Ordering.{is_eq}
 use Rattle.std.proofs.lemmas.List.Sums.{fold_more}
 use Rattle.std.proofs.Math.ListN.{get_or-map}
 use Rattle.std.proofs.lemmas.List.{take_all, length-map}
-use Rattle.gql_meta.specs.Parts.{Text, at_text, text_cmp, Field}
-use Rattle.gql_meta.specs.Views.{entries_of, meta_of}
-use Rattle.gql_meta.specs.declared.meta_type.MetaType.{MetaType}
+use Rattle.gql_registry_meta.specs.Parts.{Text, at_text, text_cmp, Field}
+use Rattle.gql_registry_meta.specs.Views.{entries_of, meta_of}
+use Rattle.gql_registry_meta.specs.declared.meta_type.MetaType.{MetaType}
 use Rattle.gql_registry.specs.Registry.{Contents, with_possible, with_possible_type}
 use Rattle.gql_registry.specs.Additions.{made, all_made, object_with, with_query_field}
 use Rattle.gql_registry.specs.Tables.{step_of}
 use Rattle.gql_registry.specs.declared.additions.Addition.{Addition}
-use Rattle.gql_meta.proofs.Entries.{sorted_at_text, found_at, missing_at, written}
+use Rattle.gql_registry_meta.proofs.Entries.{sorted_at_text, found_at, missing_at, written}
 
 -- ---- a type where none stands
 

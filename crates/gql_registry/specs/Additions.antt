@@ -3,15 +3,15 @@ use Rattle.std.specs.Prelude.{◌≡◌, ℕ, List, ◌++◌, map, fold, take}
 use Rattle.std.specs.Option.{option_map_or}
 use Rattle.std.specs.Map.{set_value}
 use Rattle.std.specs.Str.{bytes_eq}
-use Rattle.indexmap.specs.IndexMap.{insert_entry}
-use Rattle.gql_meta.specs.Parts.{Text, at_text, Field, Directive, Meta, object, name_of}
-use Rattle.gql_registry.specs.Registry.{Contents, with_type, with_directive, with_all_implements, with_possible_type}
+use Rattle.gql_registry_meta.specs.Parts.{Text, at_text, Field, Directive, Meta, object, name_of, with_entry_in_place}
+use Rattle.gql_registry.specs.Registry.{Contents, registry_of, with_type, with_directive, with_all_implements, with_possible_type}
 use Rattle.gql_registry.specs.System.{system_directives, system_scalars}
 use Rattle.gql_registry.specs.Introspection.{introspection_types, query_fields}
+use Rattle.gql_registry.specs.declared.registry.Registry.{Registry}
 
 -- fields with one more: it takes the place of one of its name, and a new one goes last
 abbrev pub with_field : List (Text × Field) → Field → List (Text × Field)
-with_field fields field = insert_entry bytes_eq fields field.name field
+with_field fields field = with_entry_in_place fields field.name field
 
 -- an object with a field more, and any other type as it is
 abbrev pub object_with : Field → Meta → Meta
@@ -36,6 +36,7 @@ pub data Step : Type 0 where
   implementing_type : Meta → List Text → Step
   possible_type : (name possible : Text) → Step
 
+-- the registry after one addition
 abbrev pub made : Contents → Step → Contents
 made before (directive added) = record before { directives = with_directive before.directives added }
 made before (missing_type added) = record before { types = with_missing before.types added }
@@ -54,8 +55,22 @@ all_made before steps = fold made before steps
 abbrev pub IsPartlyMade : Contents → List Step → Contents → Type 0
 IsPartlyMade before steps after = (count : ℕ) × (after ≡ all_made before (take count steps))
 
+-- the registry after this addition
+abbrev pub Makes : {x g : _} → Step → Registry x g → Registry x g → Type 0
+Makes step old new = registry_of new ≡ made (registry_of old) step
+
+-- the registry after all of these additions
+abbrev pub MakesAll : {x g : _} → List Step → Registry x g → Registry x g → Type 0
+MakesAll steps old new = registry_of new ≡ all_made (registry_of old) steps
+
+-- the registry after some first of these additions
+abbrev pub MakesSome : {x g : _} → List Step → Registry x g → Registry x g → Type 0
+MakesSome steps old new = IsPartlyMade (registry_of old) steps (registry_of new)
+
+-- what every schema has: the directives, and then the scalars
 abbrev pub system_steps : List Step
 system_steps = map directive system_directives ++ map missing_type system_scalars
 
+-- what a schema has that describes itself: the types, and then the fields of the query root
 abbrev pub introspection_steps : List Step
 introspection_steps = map missing_type introspection_types ++ map query_field query_fields

@@ -1,8 +1,8 @@
 -- Parts of a schema that have a name and what is said of them here, and nothing else.
 use Rattle.std.specs.Prelude.{true, false, List, [], Some, None, map}
-use Rattle.gql_meta.specs.Parts.{Text, not_deprecated, InputValue, Field, EnumValue, Directive, Meta, scalar, object, enum}
-use Rattle.gql_meta.specs.Caching.{no_hint}
-use Rattle.gql_meta.specs.declared.directive_location.DirectiveLocation.{DirectiveLocation}
+use Rattle.gql_registry_meta.specs.Parts.{Text, not_deprecated, InputValue, Field, EnumValue, Directive, Meta, scalar, object, enum}
+use Rattle.gql_registry_meta.specs.Caching.{no_hint}
+use Rattle.gql_registry_meta.specs.declared.directive_location.DirectiveLocation.{DirectiveLocation}
 
 -- an argument or an input field
 abbrev pub plain_input_value : Text → Text → InputValue
@@ -23,6 +23,7 @@ plain_input_value name ty = record {
 abbrev pub arguments : List InputValue → List (Text × InputValue)
 arguments values = map (λ value. (value.name, value)) values
 
+-- a field without arguments
 abbrev pub plain_field : Text → Text → Field
 plain_field name ty = record {
   name = name;
@@ -47,6 +48,7 @@ plain_field name ty = record {
 abbrev pub fields : List Field → List (Text × Field)
 fields members = map (λ field. (field.name, field)) members
 
+-- a value of an enum
 abbrev pub plain_value : Text → EnumValue
 plain_value name = record {
   name = name;
@@ -74,6 +76,7 @@ plain_directive name description locations args = record {
   composable = None;
 }
 
+-- a scalar that takes the values which its name says
 abbrev pub plain_scalar : Text → Meta
 plain_scalar name = scalar (record {
   name = name;
@@ -107,6 +110,7 @@ plain_object name members = object (record {
   requires_scopes = [];
 })
 
+-- an enum of these values, each under its name
 abbrev pub plain_enum : Text → List (Text × EnumValue) → Meta
 plain_enum name members = enum (record {
   name = name;

@@ -1,17 +1,19 @@
 //! What is added to a registry step by step.
 
 ghost use Rattle.std.specs.Prelude.{◌≡◌, OnOk, OnErr, map};
-ghost use Rattle.gql_registry.specs.Registry.{registry_of, types_of};
-ghost use Rattle.gql_registry.specs.Additions.{object_with, made, missing_type, query_field, all_made, IsPartlyMade, system_steps, introspection_steps};
+ghost use Rattle.gql_registry.specs.Registry.{IsUnchanged};
+ghost use Rattle.gql_registry.specs.Additions.{object_with, missing_type, query_field, system_steps, introspection_steps};
+ghost use Rattle.gql_registry.specs.Additions.{Makes, MakesAll, MakesSome};
 ghost use Rattle.gql_registry.specs.Tables.{step_of};
-ghost use Rattle.gql_meta.specs.Views.{text_of, field_of, meta_of};
+ghost use Rattle.gql_registry_meta.specs.Parts.{name_of};
+ghost use Rattle.gql_registry_meta.specs.Views.{text_of, field_of, meta_of};
 
 use crate::introspection::{IntrospectionType, QueryField, introspection_type, query_field};
 use crate::plain::scalar;
 use crate::registry::Registry;
 use crate::system::{SystemDirective, system_directive};
-use gql_lexer::OutOfMemory;
-use gql_meta::{MetaField, MetaType};
+use gql_registry_meta::{MetaField, MetaType};
+use gql_text_lexer::OutOfMemory;
 
 /// One addition to a registry.
 #[derive(Clone, Copy)]
@@ -56,6 +58,7 @@ const INTROSPECTION: [Addition; 10] = [
 fn add_field(ty: &mut MetaType, name: String, field: MetaField) -> Result<(), OutOfMemory>
     requires { text_of name ≡ text_of field.name }
     ensures field { OnOk result (meta_of ty.new ≡ object_with (field_of field) (meta_of ty.old)) }
+    ensures name { name_of (meta_of ty.new) ≡ name_of (meta_of ty.old) }
     ensures err { OnErr result (meta_of ty.new ≡ meta_of ty.old) }
 {
     match ty {
@@ -73,8 +76,8 @@ fn add_field(ty: &mut MetaType, name: String, field: MetaField) -> Result<(), Ou
 
 impl Registry {
     fn add_missing(&mut self, ty: MetaType) -> Result<(), OutOfMemory>
-        ensures made { OnOk result (registry_of self.new ≡ made (registry_of self.old) (missing_type (meta_of ty))) }
-        ensures err { OnErr result (registry_of self.new ≡ registry_of self.old) }
+        ensures made { OnOk result (Makes (missing_type (meta_of ty)) self.old self.new) }
+        ensures err { OnErr result (IsUnchanged self.old self.new) }
     {
         if self.types.contains_key(ty.name()) {
             return Ok(());
@@ -83,8 +86,8 @@ impl Registry {
     }
 
     fn add_query_field(&mut self, field: MetaField) -> Result<(), OutOfMemory>
-        ensures made { OnOk result (registry_of self.new ≡ made (registry_of self.old) (query_field (field_of field))) }
-        ensures err { OnErr result (registry_of self.new ≡ registry_of self.old) }
+        ensures made { OnOk result (Makes (query_field (field_of field)) self.old self.new) }
+        ensures err { OnErr result (IsUnchanged self.old self.new) }
     {
         let name = field.name.clone()?;
         match self.types.get_mut(self.query_type.as_str()) {
@@ -94,8 +97,8 @@ impl Registry {
     }
 
     fn add(&mut self, addition: Addition) -> Result<(), OutOfMemory>
-        ensures made { OnOk result (registry_of self.new ≡ made (registry_of self.old) (step_of addition)) }
-        ensures err { OnErr result (registry_of self.new ≡ registry_of self.old) }
+        ensures made { OnOk result (Makes (step_of addition) self.old self.new) }
+        ensures err { OnErr result (IsUnchanged self.old self.new) }
     {
         let alloc = self.allocator();
         match addition {
@@ -107,8 +110,8 @@ impl Registry {
     }
 
     fn add_all(&mut self, additions: &[Addition]) -> Result<(), OutOfMemory>
-        ensures made { OnOk result (registry_of self.new ≡ all_made (registry_of self.old) (map step_of additions.now)) }
-        ensures err { OnErr result (IsPartlyMade (registry_of self.old) (map step_of additions.now) (registry_of self.new)) }
+        ensures made { OnOk result (MakesAll (map step_of additions.now) self.old self.new) }
+        ensures err { OnErr result (MakesSome (map step_of additions.now) self.old self.new) }
     {
         for addition in additions {
             self.add(*addition)?;
@@ -120,8 +123,8 @@ impl Registry {
     /// `specifiedBy`, `oneOf`. Then the scalars `Boolean`, `Int`, `Float`, `String` and `ID`, each where no type of its
     /// name stands. Where memory runs out, some first of these additions are made.
     pub fn add_system_types(&mut self) -> Result<(), OutOfMemory>
-        ensures made { OnOk result (registry_of self.new ≡ all_made (registry_of self.old) system_steps) }
-        ensures err { OnErr result (IsPartlyMade (registry_of self.old) system_steps (registry_of self.new)) }
+        ensures made { OnOk result (MakesAll system_steps self.old self.new) }
+        ensures err { OnErr result (MakesSome system_steps self.old self.new) }
     {
         self.add_all(&SYSTEM)
     }
@@ -131,8 +134,8 @@ impl Registry {
     /// its place. Section 4.2 of the GraphQL specification, October 2021. Where memory runs out, some first of these
     /// additions are made.
     pub fn create_introspection_types(&mut self) -> Result<(), OutOfMemory>
-        ensures made { OnOk result (registry_of self.new ≡ all_made (registry_of self.old) introspection_steps) }
-        ensures err { OnErr result (IsPartlyMade (registry_of self.old) introspection_steps (registry_of self.new)) }
+        ensures made { OnOk result (MakesAll introspection_steps self.old self.new) }
+        ensures err { OnErr result (MakesSome introspection_steps self.old self.new) }
     {
         self.add_all(&INTROSPECTION)
     }

@@ -1,14 +1,15 @@
-//! The types and fields by which a schema tells about itself: section 4.2 of the GraphQL specification, October 2021.
+//! The types and fields by which a schema describes itself: section 4.2 of the GraphQL specification, October 2021.
 
-ghost use Rattle.std.specs.Prelude.{◌≡◌, IfOk, OnOk};
-ghost use Rattle.gql_meta.specs.Views.{field_of, meta_of, entries_of};
+ghost use Rattle.std.specs.Prelude.{◌≡◌, IsTrue, IfOk, OnOk};
+ghost use Rattle.gql_registry_meta.specs.Views.{field_of, fields_in, meta_of};
 ghost use Rattle.gql_registry.specs.Plain.{plain_object};
 ghost use Rattle.gql_registry.specs.Introspection.{described_field};
-ghost use Rattle.gql_registry.specs.Tables.{arguments_at, field_at, with_row, all_rows, type_at, query_field_at};
+ghost use Rattle.gql_registry.specs.Tables.{are_distinct, arguments_at, field_at, with_row, all_rows, row_names};
+ghost use Rattle.gql_registry.specs.Tables.{type_at, query_field_at};
 
 use crate::plain::{Argument, enumeration, field, lone, object};
-use gql_lexer::OutOfMemory;
-use gql_meta::{MetaField, MetaType};
+use gql_registry_meta::{MetaField, MetaType};
+use gql_text_lexer::OutOfMemory;
 use indexmap::IndexMap;
 use std::alloc::Global;
 
@@ -156,7 +157,8 @@ fn made_field(alloc: Global, row: Row) -> Result<MetaField, OutOfMemory>
 }
 
 fn made_fields(alloc: Global, rows: &[Row]) -> Result<IndexMap<String, MetaField>, OutOfMemory>
-    ensures { IfOk result (λ made. entries_of field_of made.entries ≡ all_rows rows.now) }
+    requires { IsTrue (are_distinct (row_names rows.now)) }
+    ensures { IfOk result (λ made. fields_in made ≡ all_rows rows.now) }
 {
     let mut made = IndexMap::new(alloc);
     for row in rows {
@@ -165,13 +167,13 @@ fn made_fields(alloc: Global, rows: &[Row]) -> Result<IndexMap<String, MetaField
     Ok(made)
 }
 
-#[tactic(auto, using(gql_meta::proofs::Entries::entries_with_insertion))]
+#[tactic(auto, using(gql_registry_meta::proofs::Entries::entries_with_insertion))]
 fn add_row(
     alloc: Global,
     fields: &mut IndexMap<String, MetaField>,
     row: Row,
 ) -> Result<(), OutOfMemory>
-    ensures { OnOk result (entries_of field_of fields.new.entries ≡ with_row (entries_of field_of fields.old.entries) row) }
+    ensures { OnOk result (fields_in fields.new ≡ with_row (fields_in fields.old) row) }
 {
     let field = made_field(alloc, row)?;
     let name = field.name.clone()?;
@@ -180,6 +182,7 @@ fn add_row(
 }
 
 fn object_of(alloc: Global, name: &str, rows: &[Row]) -> Result<MetaType, OutOfMemory>
+    requires { IsTrue (are_distinct (row_names rows.now)) }
     ensures { IfOk result (λ made. meta_of made ≡ plain_object name.now (all_rows rows.now)) }
 {
     let fields = made_fields(alloc, rows)?;
@@ -215,7 +218,8 @@ fn described_field(
     description: &str,
     argument: Option<Argument>,
 ) -> Result<MetaField, OutOfMemory>
-    ensures { IfOk result (λ made. field_of made ≡ described_field name.now ty.now description.now (arguments_at argument)) }
+    ensures { IfOk result (λ made. field_of made
+        ≡ described_field name.now ty.now description.now (arguments_at argument)) }
 {
     let mut made = field(alloc, name, ty)?;
     made.description = Some(String::from_str(alloc, description)?);
@@ -223,7 +227,7 @@ fn described_field(
     Ok(made)
 }
 
-/// A field by which the query root tells about the schema.
+/// A field by which the query root describes the schema.
 pub(crate) fn query_field(alloc: Global, which: QueryField) -> Result<MetaField, OutOfMemory>
     ensures { IfOk result (λ made. field_of made ≡ query_field_at which) }
 {

@@ -4,15 +4,12 @@
 mod additions;
 mod introspection;
 mod lists;
-mod optional;
 mod plain;
 mod possible;
 mod registry;
 mod system;
-#[cfg(test)]
-mod tests;
 
-pub use gql_meta::{
+pub use gql_registry_meta::{
     CacheControl, ConstValue, Context, Deprecation, DirectiveLocation, Everything,
     IntrospectionMode, MetaDirective, MetaDirectiveInvocation, MetaEnumValue, MetaField,
     MetaInputValue, MetaType, MetaTypeId, MetaTypeName, OutOfMemory, ScalarValidator, TypeRef,

@@ -1,20 +1,23 @@
 //! The names that types implement, each list under the name of its type.
 
 ghost use Rattle.std.specs.Prelude.{◌≡◌, IfOk, OnOk, OnErr, None, fold};
-ghost use Rattle.gql_registry.specs.Registry.{HasOnce, names_of, listed, with_name, with_list, with_implements, with_type};
-ghost use Rattle.gql_meta.specs.Parts.{name_of, at_text};
-ghost use Rattle.gql_meta.specs.Views.{text_of, entries_of, meta_of};
+ghost use Rattle.gql_registry.specs.Maps.{types_in, lists_in};
+ghost use Rattle.gql_registry.specs.Registry.{HasOnce, ImplementsOnce, names_of, implements_listed, with_name};
+ghost use Rattle.gql_registry.specs.Registry.{with_list, with_implements, with_type};
+ghost use Rattle.gql_registry_meta.specs.Parts.{name_of, at_text};
+ghost use Rattle.gql_registry_meta.specs.Views.{text_of, meta_of};
 
-use gql_lexer::OutOfMemory;
-use gql_meta::MetaType;
+use gql_registry_meta::MetaType;
+use gql_text_lexer::OutOfMemory;
 use indexmap::IndexSet;
 use std::alloc::Global;
 use std::collections::BTreeMap;
 
 /// Adds a name, unless it is among the names.
-#[tactic(auto, using(gql_meta::proofs::Names::names_with))]
+#[tactic(auto, using(gql_registry_meta::proofs::Names::names_with))]
 pub(crate) fn add_name(names: &mut IndexSet<String>, name: String) -> Result<(), OutOfMemory>
-    ensures names { OnOk result (names_of names.new ≡ with_name (names_of names.old) (text_of name)) }
+    ensures names { OnOk result (names_of names.new
+        ≡ with_name (names_of names.old) (text_of name)) }
     ensures once { OnOk result (HasOnce (names_of names.new) (text_of name)) }
     ensures err { OnErr result (names_of names.new ≡ names_of names.old) }
 {
@@ -24,7 +27,8 @@ pub(crate) fn add_name(names: &mut IndexSet<String>, name: String) -> Result<(),
 
 /// Adds a copy of each of the others, in their order.
 fn add_names(names: &mut IndexSet<String>, others: &IndexSet<String>) -> Result<(), OutOfMemory>
-    ensures { OnOk result (names_of names.new ≡ fold with_name (names_of names.old) (names_of others.now)) }
+    ensures { OnOk result (names_of names.new
+        ≡ fold with_name (names_of names.old) (names_of others.now)) }
 {
     for other in others.iter() {
         add_name(names, other.clone()?)?;
@@ -38,7 +42,8 @@ fn names_listed(
     lists: &BTreeMap<String, IndexSet<String>>,
     ty: &str,
 ) -> Result<IndexSet<String>, OutOfMemory>
-    ensures { IfOk result (λ names. names_of names ≡ listed ty.now (entries_of names_of lists.now.entries)) }
+    ensures { IfOk result (λ names.
+        names_of names ≡ implements_listed ty.now (lists_in lists.now)) }
 {
     match lists.get(ty) {
         Some(names) => Ok(names.clone()?),
@@ -63,7 +68,8 @@ pub(crate) fn make_listing(
 ) -> Result<Listing, OutOfMemory>
     ensures name { IfOk result (λ made. text_of made.name ≡ ty.now) }
     ensures key { IfOk result (λ made. text_of made.key ≡ ty.now) }
-    ensures names { IfOk result (λ made. names_of made.names ≡ fold with_name (listed ty.now (entries_of names_of lists.now.entries)) (names_of others.now)) }
+    ensures names { IfOk result (λ made. names_of made.names
+        ≡ fold with_name (implements_listed ty.now (lists_in lists.now)) (names_of others.now)) }
 {
     let mut names = names_listed(alloc, lists, ty)?;
     add_names(&mut names, others)?;
@@ -81,9 +87,10 @@ pub(crate) fn add_to_list(
     ty: &str,
     interface: &str,
 ) -> Result<(), OutOfMemory>
-    ensures lists { OnOk result (entries_of names_of lists.new.entries ≡ with_implements ty.now (entries_of names_of lists.old.entries) interface.now) }
-    ensures once { OnOk result (HasOnce (listed ty.now (entries_of names_of lists.new.entries)) interface.now) }
-    ensures err { OnErr result (entries_of names_of lists.new.entries ≡ entries_of names_of lists.old.entries) }
+    ensures lists { OnOk result (lists_in lists.new
+        ≡ with_implements ty.now (lists_in lists.old) interface.now) }
+    ensures once { OnOk result (ImplementsOnce ty.now (lists_in lists.new) interface.now) }
+    ensures err { OnErr result (lists_in lists.new ≡ lists_in lists.old) }
 {
     let interface = String::from_str(alloc, interface)?;
     match lists.get_mut(ty) {
@@ -98,10 +105,11 @@ fn begin_list(
     ty: &str,
     interface: String,
 ) -> Result<(), OutOfMemory>
-    requires { at_text ty.now (entries_of names_of lists.old.entries) ≡ None }
-    ensures lists { OnOk result (entries_of names_of lists.new.entries ≡ with_implements ty.now (entries_of names_of lists.old.entries) (text_of interface)) }
-    ensures once { OnOk result (HasOnce (listed ty.now (entries_of names_of lists.new.entries)) (text_of interface)) }
-    ensures err { OnErr result (entries_of names_of lists.new.entries ≡ entries_of names_of lists.old.entries) }
+    requires { at_text ty.now (lists_in lists.old) ≡ None }
+    ensures lists { OnOk result (lists_in lists.new
+        ≡ with_implements ty.now (lists_in lists.old) (text_of interface)) }
+    ensures once { OnOk result (ImplementsOnce ty.now (lists_in lists.new) (text_of interface)) }
+    ensures err { OnErr result (lists_in lists.new ≡ lists_in lists.old) }
 {
     let mut names = IndexSet::new(alloc);
     add_name(&mut names, interface)?;
@@ -121,10 +129,11 @@ pub(crate) fn put_both(
 ) -> Result<(), OutOfMemory>
     requires name { text_of name ≡ name_of (meta_of ty) }
     requires key { text_of key ≡ name_of (meta_of ty) }
-    ensures types { OnOk result (entries_of meta_of types.new.entries ≡ with_type (entries_of meta_of types.old.entries) (meta_of ty)) }
-    ensures lists { OnOk result (entries_of names_of lists.new.entries ≡ with_list (name_of (meta_of ty)) (entries_of names_of lists.old.entries) (names_of names)) }
-    ensures types_stay { OnErr result (entries_of meta_of types.new.entries ≡ entries_of meta_of types.old.entries) }
-    ensures lists_stay { OnErr result (entries_of names_of lists.new.entries ≡ entries_of names_of lists.old.entries) }
+    ensures types { OnOk result (types_in types.new ≡ with_type (types_in types.old) (meta_of ty)) }
+    ensures lists { OnOk result (lists_in lists.new
+        ≡ with_list (name_of (meta_of ty)) (lists_in lists.old) (names_of names)) }
+    ensures types_stay { OnErr result (types_in types.new ≡ types_in types.old) }
+    ensures lists_stay { OnErr result (lists_in lists.new ≡ lists_in lists.old) }
 {
     match lists.get_mut(key.as_str()) {
         Some(place) => {
@@ -147,11 +156,12 @@ fn put_first(
 ) -> Result<(), OutOfMemory>
     requires name { text_of name ≡ name_of (meta_of ty) }
     requires key { text_of key ≡ name_of (meta_of ty) }
-    requires none { at_text (text_of key) (entries_of names_of lists.old.entries) ≡ None }
-    ensures types { OnOk result (entries_of meta_of types.new.entries ≡ with_type (entries_of meta_of types.old.entries) (meta_of ty)) }
-    ensures lists { OnOk result (entries_of names_of lists.new.entries ≡ with_list (name_of (meta_of ty)) (entries_of names_of lists.old.entries) (names_of names)) }
-    ensures types_stay { OnErr result (entries_of meta_of types.new.entries ≡ entries_of meta_of types.old.entries) }
-    ensures lists_stay { OnErr result (entries_of names_of lists.new.entries ≡ entries_of names_of lists.old.entries) }
+    requires none { at_text (text_of key) (lists_in lists.old) ≡ None }
+    ensures types { OnOk result (types_in types.new ≡ with_type (types_in types.old) (meta_of ty)) }
+    ensures lists { OnOk result (lists_in lists.new
+        ≡ with_list (name_of (meta_of ty)) (lists_in lists.old) (names_of names)) }
+    ensures types_stay { OnErr result (types_in types.new ≡ types_in types.old) }
+    ensures lists_stay { OnErr result (lists_in lists.new ≡ lists_in lists.old) }
 {
     lists.insert(key, names)?;
     match types.insert(name, ty) {

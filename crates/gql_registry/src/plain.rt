@@ -1,16 +1,17 @@
 //! Makers of parts of which little is said beside their names.
 
-ghost use Rattle.std.specs.Prelude.{◌≡◌, IfOk, OnOk};
-ghost use Rattle.gql_meta.specs.Views.{input_value_of, field_of, enum_value_of, directive_of, meta_of, entries_of};
-ghost use Rattle.gql_registry.specs.Plain.{arguments, plain_field, plain_value, plain_directive, plain_scalar, plain_object, plain_enum};
-ghost use Rattle.gql_registry.specs.Tables.{argument_at, arguments_at, with_value, all_values};
+ghost use Rattle.std.specs.Prelude.{◌≡◌, IsTrue, IfOk, OnOk};
+ghost use Rattle.gql_registry_meta.specs.Views.{texts_in, input_value_of, inputs_in, field_of, fields_in};
+ghost use Rattle.gql_registry_meta.specs.Views.{enum_value_of, enum_values_in, directive_of, meta_of};
+ghost use Rattle.gql_registry.specs.Plain.{arguments, plain_field, plain_value, plain_directive, plain_scalar};
+ghost use Rattle.gql_registry.specs.Plain.{plain_object, plain_enum};
+ghost use Rattle.gql_registry.specs.Tables.{argument_at, arguments_at, are_distinct, with_value, all_values};
 
-use crate::optional::copied;
-use gql_lexer::OutOfMemory;
-use gql_meta::{
+use gql_registry_meta::{
     CacheControl, Deprecation, DirectiveLocation, MetaDirective, MetaEnumValue, MetaField,
-    MetaInputValue, MetaType,
+    MetaInputValue, MetaType, owned_text,
 };
+use gql_text_lexer::OutOfMemory;
 use indexmap::IndexMap;
 use std::alloc::Global;
 
@@ -33,10 +34,10 @@ fn input_value(alloc: Global, argument: Argument) -> Result<MetaInputValue, OutO
 {
     Ok(MetaInputValue {
         name: String::from_str(alloc, argument.name)?,
-        description: copied(alloc, argument.description)?,
+        description: owned_text(alloc, argument.description)?,
         ty: String::from_str(alloc, argument.ty)?,
         deprecation: Deprecation::NoDeprecated,
-        default_value: copied(alloc, argument.default_value)?,
+        default_value: owned_text(alloc, argument.default_value)?,
         visible: None,
         inaccessible: false,
         tags: Vec::new(alloc),
@@ -50,7 +51,7 @@ pub(crate) fn lone(
     alloc: Global,
     argument: Option<Argument>,
 ) -> Result<IndexMap<String, MetaInputValue>, OutOfMemory>
-    ensures { IfOk result (λ made. entries_of input_value_of made.entries ≡ arguments (arguments_at argument)) }
+    ensures { IfOk result (λ made. inputs_in made ≡ arguments (arguments_at argument)) }
 {
     let mut args = IndexMap::new(alloc);
     match argument {
@@ -107,7 +108,8 @@ pub(crate) fn directive(
     locations: &[DirectiveLocation],
     argument: Option<Argument>,
 ) -> Result<MetaDirective, OutOfMemory>
-    ensures { IfOk result (λ made. directive_of made ≡ plain_directive name.now description.now locations.now (arguments_at argument)) }
+    ensures { IfOk result (λ made. directive_of made
+        ≡ plain_directive name.now description.now locations.now (arguments_at argument)) }
 {
     Ok(MetaDirective {
         name: String::from_str(alloc, name)?,
@@ -141,7 +143,7 @@ pub(crate) fn object(
     name: &str,
     fields: IndexMap<String, MetaField>,
 ) -> Result<MetaType, OutOfMemory>
-    ensures { IfOk result (λ made. meta_of made ≡ plain_object name.now (entries_of field_of fields.entries)) }
+    ensures { IfOk result (λ made. meta_of made ≡ plain_object name.now (fields_in fields)) }
 {
     Ok(MetaType::Object {
         name: String::from_str(alloc, name)?,
@@ -162,12 +164,13 @@ pub(crate) fn object(
     })
 }
 
-/// An enum of values with these names.
+/// An enum of values with these names, of which no two are the same.
 pub(crate) fn enumeration(
     alloc: Global,
     name: &str,
     values: &[&str],
 ) -> Result<MetaType, OutOfMemory>
+    requires { IsTrue (are_distinct (texts_in values.now)) }
     ensures { IfOk result (λ made. meta_of made ≡ plain_enum name.now (all_values values.now)) }
 {
     Ok(MetaType::Enum {
@@ -186,7 +189,8 @@ fn enum_values(
     alloc: Global,
     names: &[&str],
 ) -> Result<IndexMap<String, MetaEnumValue>, OutOfMemory>
-    ensures { IfOk result (λ made. entries_of enum_value_of made.entries ≡ all_values names.now) }
+    requires { IsTrue (are_distinct (texts_in names.now)) }
+    ensures { IfOk result (λ made. enum_values_in made ≡ all_values names.now) }
 {
     let mut values = IndexMap::new(alloc);
     for name in names {
@@ -195,13 +199,14 @@ fn enum_values(
     Ok(values)
 }
 
-#[tactic(auto, using(gql_meta::proofs::Entries::entries_with_insertion))]
+#[tactic(auto, using(gql_registry_meta::proofs::Entries::entries_with_insertion))]
 fn add_value(
     alloc: Global,
     values: &mut IndexMap<String, MetaEnumValue>,
     name: &str,
 ) -> Result<(), OutOfMemory>
-    ensures { OnOk result (entries_of enum_value_of values.new.entries ≡ with_value (entries_of enum_value_of values.old.entries) name.now) }
+    ensures { OnOk result (enum_values_in values.new
+        ≡ with_value (enum_values_in values.old) name.now) }
 {
     let key = String::from_str(alloc, name)?;
     values.insert(key, enum_value(alloc, name)?)?;

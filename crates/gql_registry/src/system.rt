@@ -1,12 +1,12 @@
 //! The directives that every schema has: section 3.13 of the GraphQL specification, October 2021.
 
 ghost use Rattle.std.specs.Prelude.{◌≡◌, IfOk};
-ghost use Rattle.gql_meta.specs.Views.{directive_of};
+ghost use Rattle.gql_registry_meta.specs.Views.{directive_of};
 ghost use Rattle.gql_registry.specs.Tables.{directive_at};
 
 use crate::plain::{Argument, directive};
-use gql_lexer::OutOfMemory;
-use gql_meta::{DirectiveLocation, MetaDirective};
+use gql_registry_meta::{DirectiveLocation, MetaDirective};
+use gql_text_lexer::OutOfMemory;
 use std::alloc::Global;
 
 #[derive(Clone, Copy)]

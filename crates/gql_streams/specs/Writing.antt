@@ -1,14 +1,26 @@
 -- What a run of writes left.
-use Rattle.std.specs.Prelude.{ℕ, ◌⊎◌, List, take}
-use Rattle.std.specs.Io.KnownBytes.{Appends}
-use Rattle.gql_streams.specs.Causes.{Rose}
-use Rattle.std.specs.declared.option.Option.{Option}
+use Rattle.std.specs.Prelude.{ℕ, ◌⊎◌, ◌≡◌, List, take, length, IfSome}
+use Rattle.std.specs.Io.KnownBytes.{Appends, Keeps}
+use Rattle.gql_streams.specs.Causes.{SinkFails}
+use Rattle.gql_streams.specs.Outside.{Output}
 
--- the sink got a front of the text
-pub record AppendsFront (old new : Option (List ℕ)) (text : List ℕ) : Type 0 where
+-- the sink got exactly the text
+abbrev pub Gets : Output → Output → List ℕ → Type 0
+Gets before now text = Appends before.written now.written text
+
+-- the sink got nothing
+abbrev pub GetsNothing : Output → Output → Type 0
+GetsNothing before now = Keeps before.written now.written
+
+-- all that was written is flushed, where the sink says it
+abbrev pub IsFlushed : Output → Type 0
+IsFlushed now = IfSome now.written (λ bytes. now.flushed ≡ length bytes)
+
+-- the sink got a prefix of the text
+pub record GetsPrefix (before now : Output) (text : List ℕ) : Type 0 where
   pub count : ℕ
-  pub given : Appends old new (take count text)
+  pub given : Gets before now (take count text)
 
--- the sink got exactly the text or, only where its count of faults rose, a front of it
-abbrev pub AppendsOrFails : Option (List ℕ) → Option (List ℕ) → ℕ → ℕ → List ℕ → Type 0
-AppendsOrFails old new faults faults' text = Appends old new text ⊎ (Rose faults faults' × AppendsFront old new text)
+-- the sink got exactly the text or, only where it failed, a prefix of it
+abbrev pub GetsOrFails : Output → Output → List ℕ → Type 0
+GetsOrFails before now text = Gets before now text ⊎ (SinkFails before now × GetsPrefix before now text)

@@ -7,8 +7,6 @@ mod outside;
 mod reading;
 mod standard;
 mod sure;
-#[cfg(test)]
-mod tests;
 mod writing;
 
 pub use memory::{MemorySink, MemorySource};

@@ -3,7 +3,8 @@
 ghost use Rattle.std.specs.Prelude.{◌≡◌, ◌≤◌, ◌<◌, ◌+◌, ◌-◌, ◌++◌, not, false, if◌then◌else◌, ℕ, Some, Ok, min, max, is_err, IfOk, OnOk, OnErr, drop, take, length, [], vec_len, vec_capacity};
 
 use crate::outside::{Failed, Sink, Source};
-use std::alloc::{AllocError, Global};
+use gql_text_lexer::OutOfMemory;
+use std::alloc::Global;
 
 /// Gives its bytes, at most `cap` a call. The calls are numbered from 1, and those in `failing` fail.
 #[derive(Drop)]
@@ -19,11 +20,11 @@ pub struct MemorySource {
 }
 
 impl MemorySource {
-    ghost use Rattle.gql_streams.specs.Memory.{source_state};
+    ghost use Rattle.gql_streams.specs.Memory.{source_state, new_source};
 
     /// A `cap` of 0 counts as 1.
     pub fn new(bytes: Vec<u8>, cap: usize, failing: Vec<u64>) -> MemorySource
-        ensures { source_state result ≡ record { left = bytes.items; cap = max cap 1; failing = failing.items; calls = 0; faults = 0 } }
+        ensures { source_state result ≡ new_source bytes.items cap failing.items }
     {
         MemorySource {
             bytes,
@@ -40,26 +41,23 @@ impl Source for MemorySource {
     ghost use Rattle.std.specs.Io.{ReadsAtMost};
     ghost use Rattle.std.specs.Io.KnownBytes.{ReadConsumes};
     ghost use Rattle.gql_streams.specs.Causes.{HasCause};
-    ghost use Rattle.gql_streams.specs.Memory.{source_state, source_fails, next};
+    ghost use Rattle.gql_streams.specs.Memory.{source_state, input_of, source_fails, read_count};
+    ghost use Rattle.gql_streams.specs.Memory.{after_read, after_failed_read};
 
-    ghost left = { λ s. Some (drop s.at s.bytes.items) };
-
-    ghost faults = { λ s. s.faults };
+    ghost state = { λ s. record { left = Some (drop s.at s.bytes.items); faults = s.faults } };
 
     fn read(&mut self, buf: &mut [u8]) -> Result<usize, Failed>
         ensures bound { ReadsAtMost result buf.new }
-        ensures bytes { ReadConsumes (Some (source_state self.old).left) (Some (source_state self.new).left) result buf.new }
-        ensures cause { HasCause (source_state self.old).faults (source_state self.new).faults result }
+        ensures bytes { ReadConsumes
+            (input_of self.old).left (input_of self.new).left result buf.new }
+        ensures cause { HasCause (input_of self.old).faults (input_of self.new).faults result }
         ensures fails { is_err result ≡ source_fails (source_state self.old) }
-        ensures count { IfOk result (λ count. count ≡ min (min (source_state self.old).cap (length buf.old)) (length (source_state self.old).left)) }
-        ensures given { IfOk result (λ count. source_state self.new ≡ record (source_state self.old) {
-          left = drop count (source_state self.old).left;
-          calls = next (source_state self.old).calls;
-        }) }
-        ensures failed { OnErr result (source_state self.new ≡ record (source_state self.old) {
-          calls = next (source_state self.old).calls;
-          faults = next (source_state self.old).faults;
-        }) }
+        ensures count { IfOk result (λ count.
+            count ≡ read_count (source_state self.old) (length buf.old)) }
+        ensures given { IfOk result (λ count.
+            source_state self.new ≡ after_read (source_state self.old) count) }
+        ensures failed { OnErr result
+            (source_state self.new ≡ after_failed_read (source_state self.old)) }
     {
         self.calls = self.calls.saturating_add(1);
         if self.failing.contains(&self.calls) {
@@ -92,7 +90,7 @@ pub struct MemorySink {
 
 impl MemorySink {
     ghost use Rattle.gql_streams.specs.Causes.{Rose};
-    ghost use Rattle.gql_streams.specs.Memory.{sink_state, sink_fails, next};
+    ghost use Rattle.gql_streams.specs.Memory.{sink_state, sink_fails, new_sink, next};
 
     /// Takes `room` bytes of memory at once. A `cap` of 0 counts as 1.
     pub fn new(
@@ -100,8 +98,8 @@ impl MemorySink {
         room: usize,
         cap: usize,
         failing: Vec<u64>,
-    ) -> Result<MemorySink, AllocError>
-        ensures { IfOk result (λ s. sink_state s ≡ record { written = []; flushed = 0; room = room; cap = max cap 1; failing = failing.items; calls = 0; faults = 0 }) }
+    ) -> Result<MemorySink, OutOfMemory>
+        ensures { IfOk result (λ s. sink_state s ≡ new_sink room cap failing.items) }
     {
         Ok(MemorySink {
             bytes: Vec::with_capacity(alloc, room)?,
@@ -129,7 +127,8 @@ impl MemorySink {
           faults = (if result then (sink_state self.old).faults else next (sink_state self.old).faults);
         } }
         ensures later { (sink_state self.old).faults ≤ (sink_state self.new).faults }
-        ensures failed { result ≡ false → Rose (sink_state self.old).faults (sink_state self.new).faults }
+        ensures failed { result ≡ false →
+            Rose (sink_state self.old).faults (sink_state self.new).faults }
     {
         self.calls = self.calls.saturating_add(1);
         if self.failing.contains(&self.calls) {
@@ -142,31 +141,27 @@ impl MemorySink {
 
 impl Sink for MemorySink {
     ghost use Rattle.std.specs.Io.{WritesAtMost};
-    ghost use Rattle.std.specs.Io.KnownBytes.{Keeps, WriteAppends};
+    ghost use Rattle.std.specs.Io.KnownBytes.{WriteAppends};
     ghost use Rattle.gql_streams.specs.Causes.{HasCause};
-    ghost use Rattle.gql_streams.specs.Memory.{sink_state, sink_fails, write_fails, next};
+    ghost use Rattle.gql_streams.specs.Memory.{sink_state, output_of, sink_fails, write_fails, write_count};
+    ghost use Rattle.gql_streams.specs.Memory.{after_write, after_flush, after_failed_call};
+    ghost use Rattle.gql_streams.specs.Writing.{GetsNothing, IsFlushed};
 
-    ghost written = { λ s. Some s.bytes.items };
-
-    ghost flushed = { λ s. s.flushed };
-
-    ghost faults = { λ s. s.faults };
+    ghost state = { λ s. record { written = Some s.bytes.items; flushed = s.flushed; faults = s.faults } };
 
     fn write(&mut self, piece: &[u8]) -> Result<usize, Failed>
         ensures bound { WritesAtMost result piece.now }
         ensures progress { 0 < length piece.now → IfOk result (λ count. 0 < count) }
-        ensures bytes { WriteAppends (Some (sink_state self.old).written) (Some (sink_state self.new).written) result piece.now }
-        ensures cause { HasCause (sink_state self.old).faults (sink_state self.new).faults result }
+        ensures bytes { WriteAppends
+            (output_of self.old).written (output_of self.new).written result piece.now }
+        ensures cause { HasCause (output_of self.old).faults (output_of self.new).faults result }
         ensures fails { is_err result ≡ write_fails (sink_state self.old) (length piece.now) }
-        ensures count { IfOk result (λ count. count ≡ min (min (sink_state self.old).cap (length piece.now)) ((sink_state self.old).room - length (sink_state self.old).written)) }
-        ensures taken { IfOk result (λ count. sink_state self.new ≡ record (sink_state self.old) {
-          written = (sink_state self.old).written ++ take count piece.now;
-          calls = next (sink_state self.old).calls;
-        }) }
-        ensures failed { OnErr result (sink_state self.new ≡ record (sink_state self.old) {
-          calls = next (sink_state self.old).calls;
-          faults = next (sink_state self.old).faults;
-        }) }
+        ensures count { IfOk result (λ count.
+            count ≡ write_count (sink_state self.old) (length piece.now)) }
+        ensures taken { IfOk result (λ count.
+            sink_state self.new ≡ after_write (sink_state self.old) piece.now count) }
+        ensures failed { OnErr result
+            (sink_state self.new ≡ after_failed_call (sink_state self.old)) }
     {
         if !self.begins() {
             return Err(Failed);
@@ -181,18 +176,13 @@ impl Sink for MemorySink {
     }
 
     fn flush(&mut self) -> Result<(), Failed>
-        ensures bytes { Keeps (Some (sink_state self.old).written) (Some (sink_state self.new).written) }
-        ensures flushed { OnOk result ((sink_state self.new).flushed ≡ length (sink_state self.new).written) }
-        ensures cause { HasCause (sink_state self.old).faults (sink_state self.new).faults result }
+        ensures bytes { GetsNothing (output_of self.old) (output_of self.new) }
+        ensures flushed { OnOk result (IsFlushed (output_of self.new)) }
+        ensures cause { HasCause (output_of self.old).faults (output_of self.new).faults result }
         ensures fails { is_err result ≡ sink_fails (sink_state self.old) }
-        ensures done { OnOk result (sink_state self.new ≡ record (sink_state self.old) {
-          flushed = length (sink_state self.old).written;
-          calls = next (sink_state self.old).calls;
-        }) }
-        ensures failed { OnErr result (sink_state self.new ≡ record (sink_state self.old) {
-          calls = next (sink_state self.old).calls;
-          faults = next (sink_state self.old).faults;
-        }) }
+        ensures done { OnOk result (sink_state self.new ≡ after_flush (sink_state self.old)) }
+        ensures failed { OnErr result
+            (sink_state self.new ≡ after_failed_call (sink_state self.old)) }
     {
         if !self.begins() {
             return Err(Failed);

@@ -1,11 +1,12 @@
 //! The outside: a source of bytes, and a sink. Each has a count of its faults that never falls, so that a caller can
-//! tell a fault of the outside from one that the code made up.
+//! know a fault of the outside from one that the code made up.
 
-ghost use Rattle.std.specs.Prelude.{◌≡◌, ◌<◌, List, ℕ, length, IfOk, IfSome, OnOk};
+ghost use Rattle.std.specs.Prelude.{◌<◌, length, IfOk, OnOk};
 ghost use Rattle.std.specs.Io.{ReadsAtMost, WritesAtMost};
-ghost use Rattle.std.specs.Io.KnownBytes.{Keeps, ReadConsumes, WriteAppends};
-ghost use Rattle.std.specs.declared.option.Option.{Option};
+ghost use Rattle.std.specs.Io.KnownBytes.{ReadConsumes, WriteAppends};
 ghost use Rattle.gql_streams.specs.Causes.{HasCause};
+ghost use Rattle.gql_streams.specs.Outside.{Input, Output};
+ghost use Rattle.gql_streams.specs.Writing.{GetsNothing, IsFlushed};
 
 /// The outside failed.
 #[derive(Clone, Copy, Debug, PartialEq, Eq)]
@@ -13,42 +14,34 @@ pub struct Failed;
 
 /// Where bytes come from.
 pub trait Source {
-    /// The bytes that reads will give from here on, where the source tells them.
-    ghost left: { Self → Option (List ℕ) };
+    /// The bytes that reads will give from here on, where the source says them, and how often it has failed.
+    ghost state: { Self → Input };
 
-    /// How often the source has failed.
-    ghost faults: { Self → ℕ };
-
-    /// Puts the next bytes into the front of `buf`, and answers how many. `Ok(0)` for a buffer with room comes only at
+    /// Puts the next bytes at the start of `buf`, and answers how many. `Ok(0)` for a buffer with room comes only at
     /// the end. `Failed` comes only where the count of faults rose in this call, and then no byte is taken.
     fn read(&mut self, buf: &mut [u8]) -> Result<usize, Failed>
         ensures bound { ReadsAtMost result buf.new }
-        ensures bytes { ReadConsumes (left self.old) (left self.new) result buf.new }
-        ensures cause { HasCause (faults self.old) (faults self.new) result };
+        ensures bytes { ReadConsumes (state self.old).left (state self.new).left result buf.new }
+        ensures cause { HasCause (state self.old).faults (state self.new).faults result };
 }
 
 /// Where bytes go.
 pub trait Sink {
-    /// The bytes written, where the sink tells them.
-    ghost written: { Self → Option (List ℕ) };
+    /// The bytes written, where the sink says them, how many of them are flushed, and how often it has failed.
+    ghost state: { Self → Output };
 
-    /// How many of the bytes written are flushed, where the sink tells them.
-    ghost flushed: { Self → ℕ };
-
-    /// How often the sink has failed.
-    ghost faults: { Self → ℕ };
-
-    /// Takes a front of the piece, and answers its length: at least one byte of a piece that is not empty. `Failed`
+    /// Takes a prefix of the piece, and answers its length: at least one byte of a piece that is not empty. `Failed`
     /// comes only where the count of faults rose in this call, and then no byte is taken.
     fn write(&mut self, piece: &[u8]) -> Result<usize, Failed>
         ensures bound { WritesAtMost result piece.now }
         ensures progress { 0 < length piece.now → IfOk result (λ count. 0 < count) }
-        ensures bytes { WriteAppends (written self.old) (written self.new) result piece.now }
-        ensures cause { HasCause (faults self.old) (faults self.new) result };
+        ensures bytes { WriteAppends
+            (state self.old).written (state self.new).written result piece.now }
+        ensures cause { HasCause (state self.old).faults (state self.new).faults result };
 
     /// After `Ok`, all bytes written are flushed. `Failed` comes only where the count of faults rose in this call.
     fn flush(&mut self) -> Result<(), Failed>
-        ensures bytes { Keeps (written self.old) (written self.new) }
-        ensures flushed { OnOk result (IfSome (written self.new) (λ bytes. flushed self.new ≡ length bytes)) }
-        ensures cause { HasCause (faults self.old) (faults self.new) result };
+        ensures bytes { GetsNothing (state self.old) (state self.new) }
+        ensures flushed { OnOk result (IsFlushed (state self.new)) }
+        ensures cause { HasCause (state self.old).faults (state self.new).faults result };
 }

@@ -1,7 +1,7 @@
 //! Reading a source to its end, up to a limit.
 
 ghost use Rattle.std.specs.Prelude.{◌≡◌, ◌<◌, ◌≤◌, List, ℕ, length, IfOk, IsErrOf};
-ghost use Rattle.gql_streams.specs.Causes.{Rose};
+ghost use Rattle.gql_streams.specs.Causes.{SourceFails};
 ghost use Rattle.gql_streams.specs.Reading.{ReadsAll, GivesMore};
 
 use crate::outside::Source;
@@ -23,11 +23,14 @@ pub enum ReadFault {
 /// Reads all that is left, which may be `limit` bytes. It calls `read` at most `limit + 2` times, since each call but
 /// the last takes a byte.
 pub fn read_all<S: Source>(alloc: Global, input: &mut S, limit: u32) -> Result<Vec<u8>, ReadFault>
-    ensures all { IfOk result (λ bytes. ReadsAll (S.left input.old) (S.left input.new) bytes.items) }
+    ensures all { IfOk result (λ bytes.
+        ReadsAll (S.state input.old) (S.state input.new) bytes.items) }
     ensures within { IfOk result (λ bytes. length bytes.items ≤ limit) }
-    ensures later { S.faults input.old ≤ S.faults input.new }
-    ensures failed { IsErrOf result ReadFault.Failed → Rose (S.faults input.old) (S.faults input.new) }
-    ensures too_long { IsErrOf result ReadFault.TooLong → GivesMore (S.left input.old) (S.left input.new) limit }
+    ensures later { (S.state input.old).faults ≤ (S.state input.new).faults }
+    ensures failed { IsErrOf result ReadFault.Failed →
+        SourceFails (S.state input.old) (S.state input.new) }
+    ensures too_long { IsErrOf result ReadFault.TooLong →
+        GivesMore (S.state input.old) (S.state input.new) limit }
 {
     let limit = limit as usize;
     let mut bytes = Vec::new(alloc);

@@ -1,4 +1,4 @@
-//! Streams of the system as a source and as a sink. They tell no bytes: what a file, a terminal or a pipe gives and
+//! Streams of the system as a source and as a sink. They say no bytes: what a file, a terminal or a pipe gives and
 //! takes is not known to any clause. Each `Err` of the stream, and each write that takes nothing of a piece that is
 //! not empty, is one fault; neither adapter tries a call again.
 
@@ -24,9 +24,7 @@ impl<R: Read> StdSource<R> {
 }
 
 impl<R: Read> Source for StdSource<R> {
-    ghost left = { λ _. None };
-
-    ghost faults = { λ s. s.faults };
+    ghost state = { λ s. record { left = None; faults = s.faults } };
 
     fn read(&mut self, buf: &mut [u8]) -> Result<usize, Failed> {
         match self.inner.read(buf) {
@@ -56,11 +54,7 @@ impl<W: Write> StdSink<W> {
 }
 
 impl<W: Write> Sink for StdSink<W> {
-    ghost written = { λ _. None };
-
-    ghost flushed = { λ _. 0 };
-
-    ghost faults = { λ s. s.faults };
+    ghost state = { λ s. record { written = None; flushed = 0; faults = s.faults } };
 
     fn write(&mut self, piece: &[u8]) -> Result<usize, Failed> {
         match self.inner.write(piece) {

@@ -21,9 +21,7 @@ impl SureSource {
 }
 
 impl Source for SureSource {
-    ghost left = { λ s. Some (drop s.at s.bytes.items) };
-
-    ghost faults = { λ _. 0 };
+    ghost state = { λ s. record { left = Some (drop s.at s.bytes.items); faults = 0 } };
 
     fn read(&mut self, buf: &mut [u8]) -> Result<usize, Failed> {
         let count = buf.len().min(self.bytes.len() - self.at);
@@ -57,11 +55,7 @@ impl SureSink {
 }
 
 impl Sink for SureSink {
-    ghost written = { λ _. None };
-
-    ghost flushed = { λ _. 0 };
-
-    ghost faults = { λ _. 0 };
+    ghost state = { λ _. record { written = None; flushed = 0; faults = 0 } };
 
     fn write(&mut self, piece: &[u8]) -> Result<usize, Failed>
         ensures taken { result ≡ Ok (length piece.now) }

@@ -12,7 +12,7 @@ pub first_after_append : (found : Option OwnerFault) (faults more : List OwnerFa
 first_after_append found [] more = refl
 first_after_append found (fault ∷ faults) more = first_after_append (Some (earlier found fault)) faults more
 
--- what is left at an index: the item there, and what is left behind it
+-- what is left at an index: the item there, and what is left after it
 pub left_at : {X : Type 0} (xs : List X) (k : ℕ) (x : X) → k < length xs → x ≡ get_or xs k x → drop k xs ≡ x ∷ drop (k + 1) xs
 left_at xs k x below is = drop-cons xs k x below ∙ rw (sym is, add-one) refl
 

@@ -1,19 +1,19 @@
 -- The clauses of a judgement, from the first owner fault of the tree that was read.
-use Rattle.std.proofs.Common.{rules, ◌≡◌, ℕ, List, [], Result, Ok, Err, IfErr, refl, sym, ap, subst, ◌∙◌}
+use Rattle.std.proofs.Common.{◌≡◌, ℕ, List, [], Result, Ok, Err, IfErr, refl, sym, ap, subst, ◌∙◌}
 use Rattle.std.specs.Prelude.{◌≢◌}
 use Rattle.std.specs.Str.{IsUtf8, IsValidUpTo}
-use Rattle.std.specs.List.{IsAmong}
 use Rattle.std.proofs.lemmas.Str.{utf8_valid_len-IsValidUpTo}
-use Rattle.gql_syntax.specs.Documents.{SpelledBy, IsStopOf, IsOrMemory, IsErrorOrMemory}
+use Rattle.gql_text_syntax.specs.Documents.{SpelledBy, IsOrMemory, IsErrorOrMemory}
 use Rattle.gql_text.specs.DocumentOf.{document_of}
 use Rattle.gql_text.specs.Faults.{IsFirst}
 use Rattle.gql_text.specs.Owners.{owner_faults}
-use Rattle.gql_text.specs.Verdict.{Spells, IsFault, Owner, NotUtf8, IsOwnerError, IsOwnerErrorOrMemory, Judges}
+use Rattle.gql_text.specs.Verdict.{Spells, IsFault, Owner, IsOwnerError, Judges, owner_error}
+use Rattle.gql_text.proofs.Least.{one_first}
 use Rattle.gql_text.specs.declared.document.Document.{Document}
-use Rattle.gql_syntax.specs.declared.error.ReadError.{ReadError}
-use Rattle.gql_syntax.specs.declared.error.ReadError.TheVariants as errors
+use Rattle.gql_text_syntax.specs.declared.error.ReadError.{ReadError}
+use Rattle.gql_text_syntax.specs.declared.error.ReadError.TheVariants as errors
 use Rattle.gql_text.specs.declared.owner_fault.OwnerFault.{OwnerFault}
-use Rattle.gql_syntax.specs.declared.syntax.WrittenDefinition.{WrittenDefinition}
+use Rattle.gql_text_syntax.specs.declared.syntax.WrittenDefinition.{WrittenDefinition}
 
 memory : (e : ReadError) → (e ≢ errors.OutOfMemory → ⊥) → e ≡ errors.OutOfMemory
 memory (errors.NotUtf8 at) h = absurd (h (λ x. cc))
@@ -25,14 +25,12 @@ memory (errors.Duplicate name at) h = absurd (h (λ x. cc))
 memory (errors.ReservedName name at) h = absurd (h (λ x. cc))
 memory errors.OutOfMemory h = refl
 
-none_first : (fault : OwnerFault) (faults : List OwnerFault) → faults ≡ [] → IsFirst fault faults → ⊥
-none_first fault faults e f = no (subst (λ (l : List OwnerFault). IsAmong l fault) e f.among)
-  where
-    no : IsAmong [] fault → ⊥
-    no h = search rules
-
 no_owner : (tree : List WrittenDefinition) (e : ReadError) → owner_faults tree ≡ [] → IsOwnerError tree e → ⊥
-no_owner tree e f o = none_first o.fault (owner_faults tree) f o.first
+no_owner tree e f o = subst (λ (l : List OwnerFault). IsFirst o.fault l) f o.first
+
+-- a tree has one first fault
+one_error : (tree : List WrittenDefinition) (e d : ReadError) → IsOwnerError tree e → IsOwnerError tree d → d ≡ e
+one_error tree e d o p = p.error ∙ ap owner_error (one_first (owner_faults tree) p.fault o.fault p.first o.first) ∙ sym o.error
 
 module _ (text : List ℕ) (tree : List WrittenDefinition) (spelled : SpelledBy tree text) (only : (d : List WrittenDefinition) → SpelledBy d text → d ≡ tree) where
   pub only_document : (r : Result Document ReadError) → Judges tree r → (d : Document) → Spells d text → IsOrMemory d r
@@ -45,9 +43,9 @@ module _ (text : List ℕ) (tree : List WrittenDefinition) (spelled : SpelledBy 
   owner_fault u (Ok x) j = tt
   owner_fault u (Err e) j = λ n. Owner u tree spelled (j n)
 
-  pub owner_only : (r : Result Document ReadError) → Judges tree r → (other : List WrittenDefinition) → SpelledBy other text → owner_faults other ≢ [] → IsOwnerErrorOrMemory other r
-  owner_only (Ok x) j other s n = n (subst (λ (t : List WrittenDefinition). owner_faults t ≡ []) (sym (only other s)) j.0)
-  owner_only (Err e) j other s n = λ m. subst (λ (t : List WrittenDefinition). IsOwnerError t e) (sym (only other s)) (j m)
+  pub owner_only : (r : Result Document ReadError) → Judges tree r → (other : List WrittenDefinition) (e : ReadError) → SpelledBy other text → IsOwnerError other e → IsErrorOrMemory e r
+  owner_only (Ok x) j other e s o = no_owner other e (subst (λ (t : List WrittenDefinition). owner_faults t ≡ []) (sym (only other s)) j.0) o
+  owner_only (Err d) j other e s o = λ m. one_error other e d o (subst (λ (t : List WrittenDefinition). IsOwnerError t d) (sym (only other s)) (j m))
 
 pub no_stop : (r : Result Document ReadError) (e : ReadError) → ⊥ → IsErrorOrMemory e r
 no_stop r e x = absurd x

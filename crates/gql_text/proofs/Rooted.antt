@@ -4,12 +4,12 @@ use Rattle.std.specs.Prelude.{◌||◌}
 use Rattle.std.specs.List.{find, list_any}
 use Rattle.std.specs.Option.{option_map}
 use Rattle.std.specs.declared.option.Option.{Option}
-use Rattle.gql_syntax.specs.declared.operation.OperationType.{OperationType}
-use Rattle.gql_syntax.specs.declared.syntax.Description.{Description}
-use Rattle.gql_syntax.specs.declared.syntax.Kind.{Kind}
-use Rattle.gql_syntax.specs.declared.syntax.Kind.TheVariants as kind
-use Rattle.gql_syntax.specs.declared.syntax.Root.{Root}
-use Rattle.gql_syntax.specs.declared.syntax.WrittenDefinition.{WrittenDefinition}
+use Rattle.gql_text_syntax.specs.declared.operation.OperationType.{OperationType}
+use Rattle.gql_text_syntax.specs.declared.syntax.Description.{Description}
+use Rattle.gql_text_syntax.specs.declared.syntax.Kind.{Kind}
+use Rattle.gql_text_syntax.specs.declared.syntax.Kind.TheVariants as kind
+use Rattle.gql_text_syntax.specs.declared.syntax.Root.{Root}
+use Rattle.gql_text_syntax.specs.declared.syntax.WrittenDefinition.{WrittenDefinition}
 use Rattle.gql_text.specs.DocumentOf.{definition_of, document_of, kind_of, root_line_of}
 use Rattle.gql_text.specs.Roots as r
 use Rattle.gql_text.specs.Roots.{default_name, default_root, same_operation}

@@ -4,10 +4,10 @@ use Rattle.std.specs.Prelude.{flat_map}
 use Rattle.std.proofs.lemmas.List.Folds.{flat_map-map}
 use Rattle.std.proofs.lemmas.Simd.{map-map}
 use Rattle.gql_text.specs.declared.owner_fault.OwnerFault.{OwnerFault}
-use Rattle.gql_syntax.specs.declared.syntax.PlacedName.{PlacedName}
-use Rattle.gql_syntax.specs.declared.syntax.Literal.{Literal, fold-roll-Literal}
-use Rattle.gql_syntax.specs.declared.syntax.Literal.TheVariants as v
-use Rattle.gql_syntax.specs.declared.syntax.Literal.TheVariants.{rolls-List, rolls-Object}
+use Rattle.gql_text_syntax.specs.declared.syntax.PlacedName.{PlacedName}
+use Rattle.gql_text_syntax.specs.declared.syntax.Literal.{Literal, fold-roll-Literal}
+use Rattle.gql_text_syntax.specs.declared.syntax.Literal.TheVariants as v
+use Rattle.gql_text_syntax.specs.declared.syntax.Literal.TheVariants.{rolls-List, rolls-Object}
 use Rattle.gql_text.specs.Owners.{duplicates, no_names, value_faults, value_faults_by}
 
 pub value_faults_list : (items : List Literal) → value_faults (v.List items) ≡ flat_map value_faults items

@@ -1,8 +1,8 @@
 -- The document that a written tree stands for: its descriptions by their values, and a place for each part.
 use Rattle.std.specs.Prelude.{ℕ, List, [], map, Option, Some, None}
 use Rattle.std.specs.Option.{option_map}
-use Rattle.gql_value.specs.declared.const_value.ConstValue.{ConstValue}
-use Rattle.gql_value.specs.declared.const_value.ConstValue.TheVariants as value
+use Rattle.gql_text_values.specs.declared.const_value.ConstValue.{ConstValue}
+use Rattle.gql_text_values.specs.declared.const_value.ConstValue.TheVariants as value
 use Rattle.gql_text.specs.declared.document.Definition.TheVariants as definition
 use Rattle.gql_text.specs.declared.document.Document.{Document}
 use Rattle.gql_text.specs.declared.document.Definition.{Definition}
@@ -12,20 +12,21 @@ use Rattle.gql_text.specs.declared.document.FieldDef.{FieldDef}
 use Rattle.gql_text.specs.declared.document.InputDef.{InputDef}
 use Rattle.gql_text.specs.declared.document.EnumValueDef.{EnumValueDef}
 use Rattle.gql_text.specs.declared.document.DirectiveUse.{DirectiveUse}
-use Rattle.gql_syntax.specs.declared.syntax.PlacedName.{PlacedName}
-use Rattle.gql_syntax.specs.declared.syntax.Description.{Description}
-use Rattle.gql_syntax.specs.declared.syntax.Literal.{Literal, fold-Literal}
-use Rattle.gql_syntax.specs.declared.syntax.Literal.TheOpen.{Literal-F}
-use Rattle.gql_syntax.specs.declared.syntax.Argument.{Argument}
-use Rattle.gql_syntax.specs.declared.syntax.Use.{Use}
-use Rattle.gql_syntax.specs.declared.syntax.InputValue.{InputValue}
-use Rattle.gql_syntax.specs.declared.syntax.Field.{Field}
-use Rattle.gql_syntax.specs.declared.syntax.EnumValue.{EnumValue}
-use Rattle.gql_syntax.specs.declared.syntax.Root.{Root}
-use Rattle.gql_syntax.specs.declared.syntax.Implements.{Implements}
-use Rattle.gql_syntax.specs.declared.syntax.Kind.{Kind}
-use Rattle.gql_syntax.specs.declared.syntax.Kind.TheVariants as kind
-use Rattle.gql_syntax.specs.declared.syntax.WrittenDefinition.{WrittenDefinition}
+use Rattle.gql_text_syntax.specs.Types.{type_of}
+use Rattle.gql_text_syntax.specs.declared.syntax.PlacedName.{PlacedName}
+use Rattle.gql_text_syntax.specs.declared.syntax.Description.{Description}
+use Rattle.gql_text_syntax.specs.declared.syntax.Literal.{Literal, fold-Literal}
+use Rattle.gql_text_syntax.specs.declared.syntax.Literal.TheOpen.{Literal-F}
+use Rattle.gql_text_syntax.specs.declared.syntax.Argument.{Argument}
+use Rattle.gql_text_syntax.specs.declared.syntax.Use.{Use}
+use Rattle.gql_text_syntax.specs.declared.syntax.InputValue.{InputValue}
+use Rattle.gql_text_syntax.specs.declared.syntax.Field.{Field}
+use Rattle.gql_text_syntax.specs.declared.syntax.EnumValue.{EnumValue}
+use Rattle.gql_text_syntax.specs.declared.syntax.Root.{Root}
+use Rattle.gql_text_syntax.specs.declared.syntax.Implements.{Implements}
+use Rattle.gql_text_syntax.specs.declared.syntax.Kind.{Kind}
+use Rattle.gql_text_syntax.specs.declared.syntax.Kind.TheVariants as kind
+use Rattle.gql_text_syntax.specs.declared.syntax.WrittenDefinition.{WrittenDefinition}
 
 -- the outermost form of a value
 abbrev pub const_value_by : Literal-F ConstValue → ConstValue
@@ -41,9 +42,13 @@ const_value_by (Literal-F.Object entries) = value.Object (map (λ e. (e.0.name, 
 abbrev pub const_value_of : Literal → ConstValue
 const_value_of = fold-Literal ConstValue const_value_by
 
+-- an entry of an object, without the place of its key
+abbrev pub const_entry_of : PlacedName × Literal → List ℕ × ConstValue
+const_entry_of e = (e.0.name, const_value_of e.1)
+
 -- names without their places
-abbrev pub names_of : List PlacedName → List (List ℕ)
-names_of names = map (λ n. n.name) names
+abbrev pub bare_names_of : List PlacedName → List (List ℕ)
+bare_names_of names = map (λ n. n.name) names
 
 -- the value of a description
 abbrev pub description_of : Option Description → Option (List ℕ)
@@ -62,19 +67,19 @@ abbrev pub input_of : InputValue → InputDef
 input_of i = record {
   name = i.key.name;
   description = description_of i.description;
-  ty = i.ty;
+  ty = type_of i.ty;
   default = option_map const_value_of i.default;
   uses = map use_of i.uses;
   at = i.key.at;
 }
 
 -- a field, at its name
-abbrev pub field_of : Field → FieldDef
-field_of f = record {
+abbrev pub field_def_of : Field → FieldDef
+field_def_of f = record {
   name = f.key.name;
   description = description_of f.description;
   args = map input_of f.arguments;
-  ty = f.ty;
+  ty = type_of f.ty;
   uses = map use_of f.uses;
   at = f.key.at;
 }
@@ -95,7 +100,7 @@ root_line_of r = record { kind = r.kind; name = r.name; at = r.at }
 -- the implemented names
 abbrev pub implements_of : Option Implements → List (List ℕ)
 implements_of None = []
-implements_of (Some i) = names_of i.names
+implements_of (Some i) = bare_names_of i.names
 
 -- what all definitions of types have, at the name
 abbrev pub head_of : Option Description → PlacedName → List Use → TypeHead
@@ -110,9 +115,9 @@ head_of description key uses = record {
 abbrev pub kind_of : Option Description → Kind → Definition
 kind_of d (kind.Schema at uses roots) = definition.SchemaBlock (map root_line_of roots) at
 kind_of d (kind.Scalar key uses) = definition.Scalar (head_of d key uses)
-kind_of d (kind.Object o) = definition.Object (head_of d o.key o.uses) (implements_of o.implements) (map field_of o.fields)
-kind_of d (kind.Interface o) = definition.Interface (head_of d o.key o.uses) (implements_of o.implements) (map field_of o.fields)
-kind_of d (kind.Union key uses members) = definition.Union (head_of d key uses) (names_of members)
+kind_of d (kind.Object o) = definition.Object (head_of d o.key o.uses) (implements_of o.implements) (map field_def_of o.fields)
+kind_of d (kind.Interface o) = definition.Interface (head_of d o.key o.uses) (implements_of o.implements) (map field_def_of o.fields)
+kind_of d (kind.Union key uses members) = definition.Union (head_of d key uses) (bare_names_of members)
 kind_of d (kind.Enum key uses values) = definition.Enum (head_of d key uses) (map enum_value_of values)
 kind_of d (kind.Input key uses fields) = definition.Input (head_of d key uses) (map input_of fields)
 kind_of d (kind.Directive key arguments repeatable locations) = definition.Directive (record {

@@ -1,3 +1,15 @@
+pub use Rattle.gql_text_lexer.specs.Forms
+pub use Rattle.gql_text_lexer.specs.Tokens
+pub use Rattle.gql_text_lexer.specs.Left
+pub use Rattle.gql_text_lexer.specs.Lines
+pub use Rattle.gql_text_lexer.specs.Values
+pub use Rattle.gql_text_lexer.specs.Quoting
+pub use Rattle.gql_text_lexer.specs.Whole
+pub use Rattle.gql_text_values.specs.TypeRefs
+pub use Rattle.gql_text_values.specs.Shapes
+pub use Rattle.gql_text_values.specs.ConstValues
+pub use Rattle.gql_text_syntax.specs.Types
+pub use Rattle.gql_text_syntax.specs.Documents
 pub mod Faults
 pub mod Roots
 pub mod DocumentOf

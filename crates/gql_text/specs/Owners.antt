@@ -1,32 +1,33 @@
 -- The owner faults of a document, as entries of a kind, a name and a place, by cases on what is written.
 use Rattle.std.specs.Prelude.{◌&&◌, ◌||◌, not, ℕ, Bool, true, false, cond, List, [], ◌∷◌, ◌++◌, map, flat_map, Option, Some, None, codes}
-use Rattle.std.specs.List.{starts_with, filter_map}
-use Rattle.std.specs.Bool.{nat_eq}
+use Rattle.std.specs.List.{filter_map}
+use Rattle.gql_text_lexer.specs.Forms.{is_reserved}
 use Rattle.gql_text.specs.DocumentOf.{document_of}
 use Rattle.gql_text.specs.Roots.{root_of}
 use Rattle.gql_text.specs.WrittenRoots.{first_schema, has_line, is_root, is_schema, root_key}
 use Rattle.std.specs.Str.{bytes_eq}
-use Rattle.gql_syntax.specs.declared.operation.OperationType.TheVariants.{Query, Subscription}
+use Rattle.gql_text_syntax.specs.declared.operation.OperationType.TheVariants.{Query, Subscription}
 use Rattle.gql_text.specs.declared.owner_fault.OwnerFault.{OwnerFault}
 use Rattle.gql_text.specs.declared.owner_fault.FaultKind.{FaultKind}
 use Rattle.gql_text.specs.declared.owner_fault.FaultKind.TheVariants as fault
+use Rattle.gql_text_syntax.specs.declared.error.What.TheVariants as what
 use Rattle.gql_text.specs.declared.owner_uses.Owner.{Owner}
 use Rattle.gql_text.specs.declared.owner_uses.Owner.TheVariants as owner
-use Rattle.gql_syntax.specs.declared.syntax.PlacedName.{PlacedName}
-use Rattle.gql_syntax.specs.declared.syntax.Description.{Description}
-use Rattle.gql_syntax.specs.declared.syntax.Literal.{Literal, fold-Literal, out-Literal}
-use Rattle.gql_syntax.specs.declared.syntax.Literal.TheOpen.{Literal-F}
-use Rattle.gql_syntax.specs.declared.syntax.Argument.{Argument}
-use Rattle.gql_syntax.specs.declared.syntax.Use.{Use}
-use Rattle.gql_syntax.specs.declared.syntax.InputValue.{InputValue}
-use Rattle.gql_syntax.specs.declared.syntax.Field.{Field}
-use Rattle.gql_syntax.specs.declared.syntax.EnumValue.{EnumValue}
-use Rattle.gql_syntax.specs.declared.syntax.Root.{Root}
-use Rattle.gql_syntax.specs.declared.syntax.Implements.{Implements}
-use Rattle.gql_syntax.specs.declared.syntax.ObjectLike.{ObjectLike}
-use Rattle.gql_syntax.specs.declared.syntax.Kind.{Kind}
-use Rattle.gql_syntax.specs.declared.syntax.Kind.TheVariants as kind
-use Rattle.gql_syntax.specs.declared.syntax.WrittenDefinition.{WrittenDefinition}
+use Rattle.gql_text_syntax.specs.declared.syntax.PlacedName.{PlacedName}
+use Rattle.gql_text_syntax.specs.declared.syntax.Description.{Description}
+use Rattle.gql_text_syntax.specs.declared.syntax.Literal.{Literal, fold-Literal, out-Literal}
+use Rattle.gql_text_syntax.specs.declared.syntax.Literal.TheOpen.{Literal-F}
+use Rattle.gql_text_syntax.specs.declared.syntax.Argument.{Argument}
+use Rattle.gql_text_syntax.specs.declared.syntax.Use.{Use}
+use Rattle.gql_text_syntax.specs.declared.syntax.InputValue.{InputValue}
+use Rattle.gql_text_syntax.specs.declared.syntax.Field.{Field}
+use Rattle.gql_text_syntax.specs.declared.syntax.EnumValue.{EnumValue}
+use Rattle.gql_text_syntax.specs.declared.syntax.Root.{Root}
+use Rattle.gql_text_syntax.specs.declared.syntax.Implements.{Implements}
+use Rattle.gql_text_syntax.specs.declared.syntax.ObjectLike.{ObjectLike}
+use Rattle.gql_text_syntax.specs.declared.syntax.Kind.{Kind}
+use Rattle.gql_text_syntax.specs.declared.syntax.Kind.TheVariants as kind
+use Rattle.gql_text_syntax.specs.declared.syntax.WrittenDefinition.{WrittenDefinition}
 
 -- a fault at a place, where the test holds
 abbrev pub fault_where : Bool → FaultKind → ℕ → List OwnerFault
@@ -43,13 +44,17 @@ abbrev pub no_names : Names
 no_names = λ name. false
 
 -- one more name
-abbrev pub with_name : List ℕ → Names → Names
-with_name more names = λ name. bytes_eq more name || names name
+abbrev pub with_seen_name : List ℕ → Names → Names
+with_seen_name more names = λ name. bytes_eq more name || names name
+
+-- a name at this place, where it is among these
+abbrev pub repeated : Names → List ℕ → ℕ → List OwnerFault
+repeated names name at = fault_where (names name) (fault.Duplicate name) at
 
 -- each name that is among the earlier ones of its owner
 abbrev pub duplicates : Names → List PlacedName → List OwnerFault
 duplicates earlier [] = []
-duplicates earlier (key ∷ keys) = fault_where (earlier key.name) (fault.Duplicate key.name) key.at ++ duplicates (with_name key.name earlier) keys
+duplicates earlier (key ∷ keys) = repeated earlier key.name key.at ++ duplicates (with_seen_name key.name earlier) keys
 
 -- ---- values: the keys of each object, at any depth
 
@@ -73,9 +78,11 @@ argument_faults arguments = duplicates no_names (map (λ a. a.key) arguments) ++
 abbrev pub deprecated : List ℕ
 deprecated = codes "deprecated"
 
+-- section 3.13.4
 abbrev pub specified_by : List ℕ
 specified_by = codes "specifiedBy"
 
+-- of an input object of which one field is given
 abbrev pub one_of : List ℕ
 one_of = codes "oneOf"
 
@@ -98,13 +105,13 @@ is_one_string name (a ∷ []) = bytes_eq a.key.name name && is_string a.value
 is_one_string name _ = false
 
 -- no arguments
-abbrev pub is_empty : List Argument → Bool
-is_empty [] = true
-is_empty (a ∷ more) = false
+abbrev pub has_no_arguments : List Argument → Bool
+has_no_arguments [] = true
+has_no_arguments (a ∷ more) = false
 
 -- on a member, with at most one string `reason`
 abbrev pub may_deprecate : Owner → List Argument → Bool
-may_deprecate owner.Member arguments = is_empty arguments || is_one_string (codes "reason") arguments
+may_deprecate owner.Member arguments = has_no_arguments arguments || is_one_string (codes "reason") arguments
 may_deprecate _ arguments = false
 
 -- on a scalar, with exactly one string `url`
@@ -114,7 +121,7 @@ may_specify _ arguments = false
 
 -- on an input object, with no arguments
 abbrev pub may_be_one_of : Owner → List Argument → Bool
-may_be_one_of owner.Input arguments = is_empty arguments
+may_be_one_of owner.Input arguments = has_no_arguments arguments
 may_be_one_of _ arguments = false
 
 -- an attribute where it may not stand, or with arguments that it doesn't take
@@ -126,15 +133,19 @@ is_misused owner u =
 
 -- one use by itself
 abbrev pub use_faults : Owner → Use → List OwnerFault
-use_faults owner u = fault_where (is_misused owner u) fault.Attribute u.at ++ argument_faults u.arguments
+use_faults owner u = fault_where (is_misused owner u) (fault.Unsupported what.Attribute) u.at ++ argument_faults u.arguments
 
 -- an attribute, by its name, at its `@`
 abbrev pub attribute_key : Use → Option PlacedName
 attribute_key u = cond (is_attribute u.name) (Some (record { name = u.name; at = u.at })) None
 
+-- an attribute a second time on one owner
+abbrev pub attribute_faults : List Use → List OwnerFault
+attribute_faults uses = duplicates no_names (filter_map attribute_key uses)
+
 -- the uses on one owner: an attribute a second time, and each use by itself
 abbrev pub uses_faults : Owner → List Use → List OwnerFault
-uses_faults owner uses = duplicates no_names (filter_map attribute_key uses) ++ flat_map (use_faults owner) uses
+uses_faults owner uses = attribute_faults uses ++ flat_map (use_faults owner) uses
 
 -- ---- members
 
@@ -174,22 +185,18 @@ implements_faults (Some i) = duplicates no_names i.names
 
 -- ---- types
 
--- a name that begins with `__`
-unfoldable pub is_reserved : List ℕ → Bool
-is_reserved name = starts_with nat_eq name (codes "__")
-
--- such a name, where it may not stand
+-- a reserved name, where it may not stand
 abbrev pub reserved : PlacedName → List OwnerFault
 reserved key = fault_where (is_reserved key.name) (fault.ReservedName key.name) key.at
 
 -- the word `implements`
 abbrev pub implements_decoration : Option Implements → List OwnerFault
 implements_decoration None = []
-implements_decoration (Some i) = record { kind = fault.SubscriptionDecoration; at = i.at } ∷ []
+implements_decoration (Some i) = record { kind = fault.Unsupported what.SubscriptionDecoration; at = i.at } ∷ []
 
 -- a use that is no attribute
 abbrev pub custom_use_faults : Use → List OwnerFault
-custom_use_faults u = fault_where (not (is_attribute u.name)) fault.SubscriptionDecoration u.at
+custom_use_faults u = fault_where (not (is_attribute u.name)) (fault.Unsupported what.SubscriptionDecoration) u.at
 
 -- what a field of the subscription root may not have
 abbrev pub subscription_field_faults : Field → List OwnerFault
@@ -212,11 +219,11 @@ object_faults root o = object_like_faults o ++ cond (is_root root o.key.name) (s
 -- a description on a schema block
 abbrev pub description_faults : Option Description → List OwnerFault
 description_faults None = []
-description_faults (Some d) = record { kind = fault.SchemaDecoration; at = d.at } ∷ []
+description_faults (Some d) = record { kind = fault.Unsupported what.SchemaDecoration; at = d.at } ∷ []
 
 -- a use on a schema block
 abbrev pub schema_use_faults : Use → List OwnerFault
-schema_use_faults u = record { kind = fault.SchemaDecoration; at = u.at } ∷ []
+schema_use_faults u = record { kind = fault.Unsupported what.SchemaDecoration; at = u.at } ∷ []
 
 -- a schema block by itself
 abbrev pub schema_faults : Option Description → List Use → List Root → List OwnerFault
@@ -259,24 +266,32 @@ abbrev pub directive_key : Kind → Option PlacedName
 directive_key (kind.Directive key arguments repeatable locations) = Some key
 directive_key _ = None
 
+-- names of types that repeat
+abbrev pub type_name_faults : List WrittenDefinition → List OwnerFault
+type_name_faults ds = duplicates no_names (filter_map (λ d. type_key d.kind) ds)
+
+-- names of directives that repeat
+abbrev pub directive_name_faults : List WrittenDefinition → List OwnerFault
+directive_name_faults ds = duplicates no_names (filter_map (λ d. directive_key d.kind) ds)
+
 -- the place of the word `schema`
 abbrev pub schema_place : Kind → Option ℕ
 schema_place (kind.Schema at uses roots) = Some at
 schema_place _ = None
 
--- a block behind another one
+-- a block after another one
 abbrev pub second_schema : Bool → Option ℕ → List OwnerFault
-second_schema true (Some at) = record { kind = fault.SecondSchema; at = at } ∷ []
+second_schema true (Some at) = record { kind = fault.Unsupported what.SecondSchema; at = at } ∷ []
 second_schema _ _ = []
 
--- the blocks behind the first one; the test says whether one stands before
+-- the blocks after the first one; the test says whether one stands before
 abbrev pub second_schemas : Bool → List WrittenDefinition → List OwnerFault
 second_schemas before [] = []
 second_schemas before (d ∷ ds) = second_schema before (schema_place d.kind) ++ second_schemas (before || is_schema d.kind) ds
 
 -- a block without a line for queries
 abbrev pub query_faults_of : Kind → List OwnerFault
-query_faults_of (kind.Schema at uses roots) = fault_where (not (has_line Query roots)) fault.NoQuery at
+query_faults_of (kind.Schema at uses roots) = fault_where (not (has_line Query roots)) (fault.Unsupported what.NoQuery) at
 query_faults_of _ = []
 
 -- the same of the first block, where there is one
@@ -287,8 +302,8 @@ query_faults (Some schema) = query_faults_of schema.kind
 -- all owner faults of a document
 abbrev pub owner_faults : List WrittenDefinition → List OwnerFault
 owner_faults ds =
-    duplicates no_names (filter_map (λ d. type_key d.kind) ds) ++
-    (duplicates no_names (filter_map (λ d. directive_key d.kind) ds) ++
+    type_name_faults ds ++
+    (directive_name_faults ds ++
     (second_schemas false ds ++
     (query_faults (first_schema ds) ++
     flat_map (definition_faults (root_of Subscription (document_of ds))) ds)))

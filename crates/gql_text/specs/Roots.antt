@@ -3,8 +3,8 @@ use Rattle.std.specs.Prelude.{ℕ, Bool, true, false, cond, List, [], Option, So
 use Rattle.std.specs.List.{find, list_any}
 use Rattle.std.specs.Option.{option_map}
 use Rattle.std.specs.Str.{bytes_eq}
-use Rattle.gql_syntax.specs.declared.operation.OperationType.{OperationType}
-use Rattle.gql_syntax.specs.declared.operation.OperationType.TheVariants.{Query, Mutation, Subscription}
+use Rattle.gql_text_syntax.specs.declared.operation.OperationType.{OperationType}
+use Rattle.gql_text_syntax.specs.declared.operation.OperationType.TheVariants.{Query, Mutation, Subscription}
 use Rattle.gql_text.specs.declared.document.RootLine.{RootLine}
 use Rattle.gql_text.specs.declared.document.Definition.{Definition}
 use Rattle.gql_text.specs.declared.document.Definition.TheVariants as definition

@@ -3,12 +3,12 @@ use Rattle.std.specs.Prelude.{ℕ, Bool, true, false, List, [], Option, Some, No
 use Rattle.std.specs.List.{find, list_any}
 use Rattle.std.specs.Option.{option_map}
 use Rattle.std.specs.Str.{bytes_eq}
-use Rattle.gql_syntax.specs.declared.operation.OperationType.{OperationType}
-use Rattle.gql_syntax.specs.declared.syntax.PlacedName.{PlacedName}
-use Rattle.gql_syntax.specs.declared.syntax.Root.{Root}
-use Rattle.gql_syntax.specs.declared.syntax.Kind.{Kind}
-use Rattle.gql_syntax.specs.declared.syntax.Kind.TheVariants as kind
-use Rattle.gql_syntax.specs.declared.syntax.WrittenDefinition.{WrittenDefinition}
+use Rattle.gql_text_syntax.specs.declared.operation.OperationType.{OperationType}
+use Rattle.gql_text_syntax.specs.declared.syntax.PlacedName.{PlacedName}
+use Rattle.gql_text_syntax.specs.declared.syntax.Root.{Root}
+use Rattle.gql_text_syntax.specs.declared.syntax.Kind.{Kind}
+use Rattle.gql_text_syntax.specs.declared.syntax.Kind.TheVariants as kind
+use Rattle.gql_text_syntax.specs.declared.syntax.WrittenDefinition.{WrittenDefinition}
 use Rattle.gql_text.specs.Roots.{operation_word, default_name, default_root, same_operation}
 
 -- the name of a line is its first word
@@ -42,10 +42,14 @@ abbrev pub defines : List ℕ → Kind → Bool
 defines name (kind.Object o) = bytes_eq o.key.name name
 defines name _ = false
 
+-- without a block, the default
+abbrev pub default_root_of : OperationType → List WrittenDefinition → Option (List ℕ)
+default_root_of operation ds = default_root operation (list_any (λ d. defines (default_name operation) d.kind) ds)
+
 -- the name of a root, by the first schema block or by the defaults
 abbrev pub root_by : Option WrittenDefinition → OperationType → List WrittenDefinition → Option (List ℕ)
 root_by (Some schema) operation ds = written_line operation (roots_of schema.kind)
-root_by None operation ds = default_root operation (list_any (λ d. defines (default_name operation) d.kind) ds)
+root_by None operation ds = default_root_of operation ds
 
 -- whether a name is that of the root, if there is one
 abbrev pub is_root : Option (List ℕ) → List ℕ → Bool

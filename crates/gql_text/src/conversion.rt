@@ -1,20 +1,19 @@
-//! The document that a written tree stands for. Names and texts move.
+//! The document that a written tree stands for, with copies of its names and texts.
 
 ghost use Rattle.std.specs.Prelude.{◌≡◌, IfOk, map};
-ghost use Rattle.gql_text.specs.DocumentOf.{argument_of, definition_of, description_of, document_of, enum_value_of, field_of, head_of, implements_of, input_of, kind_of, root_line_of, use_of};
-ghost use Rattle.gql_syntax.specs.declared.syntax.Kind.TheVariants as kind;
+ghost use Rattle.gql_text.specs.DocumentOf.{argument_of, definition_of, description_of, enum_value_of, field_def_of, head_of, implements_of, input_of, kind_of, root_line_of, use_of};
+ghost use Rattle.gql_text_syntax.specs.declared.syntax.Kind.TheVariants as kind;
 
 use crate::document::{
-    Definition, DirectiveDef, DirectiveUse, Document, EnumValueDef, FieldDef, InputDef, RootLine,
-    TypeHead,
+    Definition, DirectiveDef, DirectiveUse, EnumValueDef, FieldDef, InputDef, RootLine, TypeHead,
 };
 use crate::value_conversion::{const_value, default_value};
-use gql_lexer::{Name, OutOfMemory, Text};
-use gql_syntax::{
-    Argument, Description, EnumValue, Field, Implements, InputValue, Kind, ObjectLike, PlacedName,
-    Root, Use, WrittenDefinition,
+use gql_text_lexer::{Name, OutOfMemory, Text};
+use gql_text_syntax::{
+    Argument, Description, EnumValue, Field, Implements, InputValue, Kind, NameSpan, ObjectLike,
+    PlacedName, Root, Use, WrittenDefinition,
 };
-use gql_value::ConstValue;
+use gql_text_values::ConstValue;
 use sqlite_items::Items;
 use std::alloc::Global;
 
@@ -22,215 +21,186 @@ use std::alloc::Global;
 pub(crate) trait Becomes<U>: Sized {
     ghost becomes: { Self → U };
 
-    fn turned(self, alloc: Global) -> Result<U, OutOfMemory>
-        ensures { IfOk result (λ part. part ≡ becomes self) };
+    fn owned(&self, alloc: Global) -> Result<U, OutOfMemory>
+        ensures { IfOk result (λ part. part ≡ becomes self.now) };
 }
 
 /// Each item in its place.
-pub(crate) fn each<T: Becomes<U> + Drop, U: Drop>(
+pub(crate) fn each<T: Becomes<U>, U: Drop>(
     alloc: Global,
-    items: Items<T>,
+    items: &Items<T>,
 ) -> Result<Items<U>, OutOfMemory>
-    ensures { IfOk result (λ found. found ≡ map T.becomes items) }
+    ensures { IfOk result (λ found. found ≡ map T.becomes items.now) }
 {
-    let mut left = items;
-    let mut found = Vec::with_capacity(alloc, left.len())?;
-    while let Some(item) = left.pop() {
-        found.push(item.turned(alloc)?)?;
+    let mut found = Items::new(alloc);
+    for item in items.as_slice() {
+        found.push(item.owned(alloc)?)?;
     }
-    found.reverse();
-    Ok(Items::from_vec(found))
+    Ok(found)
 }
 
-impl Becomes<Name> for PlacedName {
+impl<'t> Becomes<Name> for PlacedName<'t> {
     ghost becomes = { λ n. n.name };
 
-    fn turned(self, _alloc: Global) -> Result<Name, OutOfMemory> {
-        Ok(self.name)
+    fn owned(&self, alloc: Global) -> Result<Name, OutOfMemory> {
+        self.name.to_name(alloc)
     }
 }
 
-impl Becomes<(Name, ConstValue)> for Argument {
+impl<'t> Becomes<Name> for NameSpan<'t> {
+    ghost becomes = { λ n. n };
+
+    fn owned(&self, alloc: Global) -> Result<Name, OutOfMemory> {
+        self.to_name(alloc)
+    }
+}
+
+impl<'t> Becomes<(Name, ConstValue)> for Argument<'t> {
     ghost becomes = { argument_of };
 
-    fn turned(self, alloc: Global) -> Result<(Name, ConstValue), OutOfMemory> {
-        let Argument { key, value } = self;
-        let value = const_value(alloc, value)?;
-        Ok((key.name, value))
+    fn owned(&self, alloc: Global) -> Result<(Name, ConstValue), OutOfMemory> {
+        let name = self.key.name.to_name(alloc)?;
+        let value = const_value(alloc, &self.value)?;
+        Ok((name, value))
     }
 }
 
-impl Becomes<DirectiveUse> for Use {
+impl<'t> Becomes<DirectiveUse> for Use<'t> {
     ghost becomes = { use_of };
 
-    fn turned(self, alloc: Global) -> Result<DirectiveUse, OutOfMemory> {
-        let Use {
-            at,
+    fn owned(&self, alloc: Global) -> Result<DirectiveUse, OutOfMemory> {
+        let name = self.name.to_name(alloc)?;
+        let args = each(alloc, &self.arguments)?;
+        Ok(DirectiveUse {
             name,
-            arguments,
-        } = self;
-        let args = each(alloc, arguments)?;
-        Ok(DirectiveUse { name, args, at })
-    }
-}
-
-fn value_of_description(description: Option<Description>) -> Option<Text>
-    ensures { result ≡ description_of description }
-{
-    match description {
-        None => None,
-        Some(found) => Some(found.text),
-    }
-}
-
-impl Becomes<InputDef> for InputValue {
-    ghost becomes = { input_of };
-
-    fn turned(self, alloc: Global) -> Result<InputDef, OutOfMemory> {
-        let InputValue {
-            description,
-            key,
-            ty,
-            default,
-            uses,
-        } = self;
-        let default = default_value(alloc, default)?;
-        let uses = each(alloc, uses)?;
-        let description = value_of_description(description);
-        Ok(InputDef {
-            name: key.name,
-            description,
-            ty,
-            default,
-            uses,
-            at: key.at,
+            args,
+            at: self.at,
         })
     }
 }
 
-impl Becomes<FieldDef> for Field {
-    ghost becomes = { field_of };
+fn description_text(
+    alloc: Global,
+    description: &Option<Description<'_>>,
+) -> Result<Option<Text>, OutOfMemory>
+    ensures { IfOk result (λ text. text ≡ description_of description.now) }
+{
+    match description {
+        None => Ok(None),
+        Some(found) => Ok(Some(found.text.to_text(alloc)?)),
+    }
+}
 
-    fn turned(self, alloc: Global) -> Result<FieldDef, OutOfMemory> {
-        let Field {
+impl<'t> Becomes<InputDef> for InputValue<'t> {
+    ghost becomes = { input_of };
+
+    fn owned(&self, alloc: Global) -> Result<InputDef, OutOfMemory> {
+        let name = self.key.name.to_name(alloc)?;
+        let description = description_text(alloc, &self.description)?;
+        let ty = self.ty.to_type_ref(alloc)?;
+        let default = default_value(alloc, &self.default)?;
+        let uses = each(alloc, &self.uses)?;
+        Ok(InputDef {
+            name,
             description,
-            key,
-            arguments,
             ty,
+            default,
             uses,
-        } = self;
-        let args = each(alloc, arguments)?;
-        let uses = each(alloc, uses)?;
-        let description = value_of_description(description);
+            at: self.key.at,
+        })
+    }
+}
+
+impl<'t> Becomes<FieldDef> for Field<'t> {
+    ghost becomes = { field_def_of };
+
+    fn owned(&self, alloc: Global) -> Result<FieldDef, OutOfMemory> {
+        let name = self.key.name.to_name(alloc)?;
+        let description = description_text(alloc, &self.description)?;
+        let args = each(alloc, &self.arguments)?;
+        let ty = self.ty.to_type_ref(alloc)?;
+        let uses = each(alloc, &self.uses)?;
         Ok(FieldDef {
-            name: key.name,
+            name,
             description,
             args,
             ty,
             uses,
-            at: key.at,
+            at: self.key.at,
         })
     }
 }
 
-impl Becomes<EnumValueDef> for EnumValue {
+impl<'t> Becomes<EnumValueDef> for EnumValue<'t> {
     ghost becomes = { enum_value_of };
 
-    fn turned(self, alloc: Global) -> Result<EnumValueDef, OutOfMemory> {
-        let EnumValue {
-            description,
-            key,
-            uses,
-        } = self;
-        let uses = each(alloc, uses)?;
-        let description = value_of_description(description);
+    fn owned(&self, alloc: Global) -> Result<EnumValueDef, OutOfMemory> {
+        let name = self.key.name.to_name(alloc)?;
+        let description = description_text(alloc, &self.description)?;
+        let uses = each(alloc, &self.uses)?;
         Ok(EnumValueDef {
-            name: key.name,
+            name,
             description,
             uses,
-            at: key.at,
+            at: self.key.at,
         })
     }
 }
 
-impl Becomes<RootLine> for Root {
+impl<'t> Becomes<RootLine> for Root<'t> {
     ghost becomes = { root_line_of };
 
-    fn turned(self, _alloc: Global) -> Result<RootLine, OutOfMemory> {
-        let Root { kind, at, name } = self;
-        Ok(RootLine { kind, name, at })
+    fn owned(&self, alloc: Global) -> Result<RootLine, OutOfMemory> {
+        let name = self.name.to_name(alloc)?;
+        Ok(RootLine {
+            kind: self.kind,
+            name,
+            at: self.at,
+        })
     }
 }
 
-fn implemented(alloc: Global, implements: Option<Implements>) -> Result<Items<Name>, OutOfMemory>
-    ensures { IfOk result (λ names. names ≡ implements_of implements) }
+fn implemented(
+    alloc: Global,
+    implements: &Option<Implements<'_>>,
+) -> Result<Items<Name>, OutOfMemory>
+    ensures { IfOk result (λ names. names ≡ implements_of implements.now) }
 {
     match implements {
         None => Ok(Items::new(alloc)),
-        Some(found) => each(alloc, found.names),
+        Some(found) => each(alloc, &found.names),
     }
 }
 
 fn head(
     alloc: Global,
-    description: Option<Description>,
-    key: PlacedName,
-    uses: Items<Use>,
+    description: &Option<Description<'_>>,
+    key: &PlacedName<'_>,
+    uses: &Items<Use<'_>>,
 ) -> Result<TypeHead, OutOfMemory>
-    ensures { IfOk result (λ head. head ≡ head_of description key uses) }
+    ensures { IfOk result (λ head. head ≡ head_of description.now key.now uses.now) }
 {
+    let name = key.name.to_name(alloc)?;
+    let description = description_text(alloc, description)?;
     let uses = each(alloc, uses)?;
-    let description = value_of_description(description);
     Ok(TypeHead {
-        name: key.name,
+        name,
         description,
         uses,
         at: key.at,
     })
 }
 
-/// The parts of an object or of an interface.
-struct ObjectParts {
-    head: TypeHead,
-    implements: Items<Name>,
-    fields: Items<FieldDef>,
-}
-
-fn object_parts(
-    alloc: Global,
-    description: Option<Description>,
-    object: ObjectLike,
-) -> Result<ObjectParts, OutOfMemory>
-    ensures { IfOk result (λ parts. (parts.head ≡ head_of description object.key object.uses) × (parts.implements ≡ implements_of object.implements) × (parts.fields ≡ map field_of object.fields)) }
-{
-    let ObjectLike {
-        key,
-        implements,
-        uses,
-        fields,
-    } = object;
-    let head = head(alloc, description, key, uses)?;
-    let implements = implemented(alloc, implements)?;
-    let fields = each(alloc, fields)?;
-    Ok(ObjectParts {
-        head,
-        implements,
-        fields,
-    })
-}
-
 fn object(
     alloc: Global,
-    description: Option<Description>,
-    object: ObjectLike,
+    description: &Option<Description<'_>>,
+    object: &ObjectLike<'_>,
 ) -> Result<Definition, OutOfMemory>
-    ensures { IfOk result (λ found. found ≡ kind_of description (kind.Object object)) }
+    ensures { IfOk result (λ found. found ≡ kind_of description.now (kind.Object object.now)) }
 {
-    let ObjectParts {
-        head,
-        implements,
-        fields,
-    } = object_parts(alloc, description, object)?;
+    let head = head(alloc, description, &object.key, &object.uses)?;
+    let implements = implemented(alloc, &object.implements)?;
+    let fields = each(alloc, &object.fields)?;
     Ok(Definition::Object {
         head,
         implements,
@@ -240,16 +210,15 @@ fn object(
 
 fn interface(
     alloc: Global,
-    description: Option<Description>,
-    object: ObjectLike,
+    description: &Option<Description<'_>>,
+    object: &ObjectLike<'_>,
 ) -> Result<Definition, OutOfMemory>
-    ensures { IfOk result (λ found. found ≡ kind_of description (kind.Interface object)) }
+    ensures { IfOk result (λ found. found
+        ≡ kind_of description.now (kind.Interface object.now)) }
 {
-    let ObjectParts {
-        head,
-        implements,
-        fields,
-    } = object_parts(alloc, description, object)?;
+    let head = head(alloc, description, &object.key, &object.uses)?;
+    let implements = implemented(alloc, &object.implements)?;
+    let fields = each(alloc, &object.fields)?;
     Ok(Definition::Interface {
         head,
         implements,
@@ -259,18 +228,21 @@ fn interface(
 
 fn directive(
     alloc: Global,
-    description: Option<Description>,
-    key: PlacedName,
-    arguments: Items<InputValue>,
+    description: &Option<Description<'_>>,
+    key: &PlacedName<'_>,
+    arguments: &Items<InputValue<'_>>,
     repeatable: bool,
-    locations: Items<Name>,
+    locations: &Items<NameSpan<'_>>,
 ) -> Result<Definition, OutOfMemory>
-    ensures { IfOk result (λ found. found ≡ kind_of description (kind.Directive key arguments repeatable locations)) }
+    ensures { IfOk result (λ found. found
+        ≡ kind_of description.now (kind.Directive key.now arguments.now repeatable locations.now)) }
 {
+    let name = key.name.to_name(alloc)?;
+    let description = description_text(alloc, description)?;
     let args = each(alloc, arguments)?;
-    let description = value_of_description(description);
+    let locations = each(alloc, locations)?;
     Ok(Definition::Directive(DirectiveDef {
-        name: key.name,
+        name,
         description,
         args,
         repeatable,
@@ -281,15 +253,15 @@ fn directive(
 
 fn definition(
     alloc: Global,
-    description: Option<Description>,
-    kind: Kind,
+    description: &Option<Description<'_>>,
+    kind: &Kind<'_>,
 ) -> Result<Definition, OutOfMemory>
-    ensures { IfOk result (λ found. found ≡ kind_of description kind) }
+    ensures { IfOk result (λ found. found ≡ kind_of description.now kind.now) }
 {
     match kind {
         Kind::Schema { at, roots, .. } => {
             let roots = each(alloc, roots)?;
-            Ok(Definition::SchemaBlock { roots, at })
+            Ok(Definition::SchemaBlock { roots, at: *at })
         }
         Kind::Scalar { key, uses } => {
             let head = head(alloc, description, key, uses)?;
@@ -317,26 +289,14 @@ fn definition(
             arguments,
             repeatable,
             locations,
-        } => { directive(alloc, description, key, arguments, repeatable, locations) }
+        } => directive(alloc, description, key, arguments, *repeatable, locations),
     }
 }
 
-impl Becomes<Definition> for WrittenDefinition {
+impl<'t> Becomes<Definition> for WrittenDefinition<'t> {
     ghost becomes = { definition_of };
 
-    fn turned(self, alloc: Global) -> Result<Definition, OutOfMemory> {
-        let WrittenDefinition { description, kind } = self;
-        definition(alloc, description, kind)
+    fn owned(&self, alloc: Global) -> Result<Definition, OutOfMemory> {
+        definition(alloc, &self.description, &self.kind)
     }
-}
-
-/// The document of a written tree. It takes time in proportion to the tree, and copies no name and no text.
-pub(crate) fn into_document(
-    alloc: Global,
-    definitions: Items<WrittenDefinition>,
-) -> Result<Document, OutOfMemory>
-    ensures { IfOk result (λ document. document ≡ document_of definitions) }
-{
-    let definitions = each(alloc, definitions)?;
-    Ok(Document { definitions })
 }

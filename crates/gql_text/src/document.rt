@@ -1,9 +1,9 @@
 //! A schema document as its reader gives it. Each `at` is a place in the source, a byte offset: that of the name
 //! unless the field says otherwise.
 
-use gql_lexer::{Name, Text};
-use gql_syntax::OperationType;
-use gql_value::{ConstValue, TypeRef};
+use gql_text_lexer::{Name, Text};
+use gql_text_syntax::OperationType;
+use gql_text_values::{ConstValue, TypeRef};
 use sqlite_items::Items;
 
 /// A schema document: section 3 of the GraphQL specification, October 2021.

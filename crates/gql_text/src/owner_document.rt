@@ -1,28 +1,31 @@
 //! The first owner fault of a document.
+#![tactic(auto, using(crate::proofs::First::first_after_append))]
 
 ghost use Rattle.std.specs.Prelude.{◌≡◌, IfOk, OnOk, None, flat_map};
-ghost use Rattle.std.specs.List.{filter_map};
 ghost use Rattle.std.specs.Option.{option_copied};
 ghost use Rattle.gql_text.specs.Faults.{IsFirstOf, first_after};
-ghost use Rattle.gql_text.specs.Owners.{definition_faults, directive_key, duplicates, no_names, owner_faults, type_key};
+ghost use Rattle.gql_text.specs.Owners.{definition_faults, directive_key, directive_name_faults, owner_faults, type_key, type_name_faults};
 ghost use Rattle.gql_text.specs.Seen.{key_faults, names_in, with_key};
 
 use crate::owner_fault::OwnerFault;
 use crate::owner_names::check_name;
-use crate::owner_roots::{check_query, check_seconds, first_schema, subscription_root};
+use crate::owner_roots::{check_query, check_seconds};
 use crate::owner_types::check_definition;
-use gql_syntax::{Kind, PlacedName, WrittenDefinition};
+use crate::roots::{first_schema, root_name};
+use gql_text_syntax::{Kind, OperationType, PlacedName, WrittenDefinition};
 use std::alloc::{AllocError, Global};
 use std::collections::BTreeSet;
 
 fn check_key<'t>(
     alloc: Global,
-    key: Option<&'t PlacedName>,
+    key: Option<&'t PlacedName<'_>>,
     earlier: &mut BTreeSet<&'t str>,
     first: &mut Option<OwnerFault>,
 ) -> Result<(), AllocError>
-    ensures names { OnOk result (names_in earlier.new ≡ with_key (option_copied key.entry) (names_in earlier.old)) }
-    ensures faults { OnOk result (first.new ≡ first_after first.old (key_faults (option_copied key.entry) (names_in earlier.old))) }
+    ensures names { OnOk result (names_in earlier.new
+        ≡ with_key (option_copied key.entry) (names_in earlier.old)) }
+    ensures faults { OnOk result (first.new
+        ≡ first_after first.old (key_faults (option_copied key.entry) (names_in earlier.old))) }
 {
     match key {
         None => Ok(()),
@@ -30,7 +33,7 @@ fn check_key<'t>(
     }
 }
 
-fn type_key(kind: &Kind) -> Option<&PlacedName>
+fn type_key<'d, 't>(kind: &'d Kind<'t>) -> Option<&'d PlacedName<'t>>
     ensures { option_copied result ≡ type_key kind.now }
 {
     match kind {
@@ -45,7 +48,7 @@ fn type_key(kind: &Kind) -> Option<&PlacedName>
     }
 }
 
-fn directive_key(kind: &Kind) -> Option<&PlacedName>
+fn directive_key<'d, 't>(kind: &'d Kind<'t>) -> Option<&'d PlacedName<'t>>
     ensures { option_copied result ≡ directive_key kind.now }
 {
     match kind {
@@ -56,10 +59,10 @@ fn directive_key(kind: &Kind) -> Option<&PlacedName>
 
 fn check_type_names(
     alloc: Global,
-    definitions: &[WrittenDefinition],
+    definitions: &[WrittenDefinition<'_>],
     first: &mut Option<OwnerFault>,
 ) -> Result<(), AllocError>
-    ensures { OnOk result (first.new ≡ first_after first.old (duplicates no_names (filter_map (λ d. type_key d.kind) definitions.now))) }
+    ensures { OnOk result (first.new ≡ first_after first.old (type_name_faults definitions.now)) }
 {
     let mut earlier = BTreeSet::new(alloc);
     for definition in definitions {
@@ -70,10 +73,11 @@ fn check_type_names(
 
 fn check_directive_names(
     alloc: Global,
-    definitions: &[WrittenDefinition],
+    definitions: &[WrittenDefinition<'_>],
     first: &mut Option<OwnerFault>,
 ) -> Result<(), AllocError>
-    ensures { OnOk result (first.new ≡ first_after first.old (duplicates no_names (filter_map (λ d. directive_key d.kind) definitions.now))) }
+    ensures { OnOk result (first.new
+        ≡ first_after first.old (directive_name_faults definitions.now)) }
 {
     let mut earlier = BTreeSet::new(alloc);
     for definition in definitions {
@@ -85,10 +89,11 @@ fn check_directive_names(
 fn check_each_definition(
     alloc: Global,
     root: Option<&str>,
-    definitions: &[WrittenDefinition],
+    definitions: &[WrittenDefinition<'_>],
     first: &mut Option<OwnerFault>,
 ) -> Result<(), AllocError>
-    ensures { OnOk result (first.new ≡ first_after first.old (flat_map (definition_faults (option_copied root.entry)) definitions.now)) }
+    ensures { OnOk result (first.new
+        ≡ first_after first.old (flat_map (definition_faults (option_copied root.entry)) definitions.now)) }
 {
     for definition in definitions {
         check_definition(alloc, root, definition, first)?;
@@ -96,10 +101,9 @@ fn check_each_definition(
     Ok(())
 }
 
-#[tactic(auto, using(crate::proofs::First::first_after_append))]
 fn check_document(
     alloc: Global,
-    definitions: &[WrittenDefinition],
+    definitions: &[WrittenDefinition<'_>],
     first: &mut Option<OwnerFault>,
 ) -> Result<(), AllocError>
     ensures { OnOk result (first.new ≡ first_after first.old (owner_faults definitions.now)) }
@@ -108,7 +112,7 @@ fn check_document(
     check_directive_names(alloc, definitions, first)?;
     check_seconds(definitions, first);
     check_query(first_schema(definitions), first);
-    let root = subscription_root(definitions);
+    let root = root_name(OperationType::Subscription, definitions);
     check_each_definition(alloc, root, definitions, first)
 }
 
@@ -116,7 +120,7 @@ fn check_document(
 /// before a `ReservedName`, and that before the others, in the order of `FaultKind`.
 pub(crate) fn first_owner_fault(
     alloc: Global,
-    definitions: &[WrittenDefinition],
+    definitions: &[WrittenDefinition<'_>],
 ) -> Result<Option<OwnerFault>, AllocError>
     ensures { IfOk result (λ first. IsFirstOf first (owner_faults definitions.now)) }
 {

@@ -1,11 +1,12 @@
 //! What a document can break beyond its grammar: names that repeat, reserved names, and forms that are not supported.
 
-ghost use Rattle.std.specs.Prelude.{◌≡◌, [], ◌∷◌};
-ghost use Rattle.gql_text.specs.Faults.{rank, is_before, first_after};
+ghost use Rattle.std.specs.Prelude.{◌≡◌, ◌<◌, [], ◌∷◌};
+ghost use Rattle.gql_text.specs.Faults.{form_rank, rank, is_before, first_after};
 
-use gql_lexer::Text;
+use gql_text_lexer::Text;
+use gql_text_syntax::What;
 
-/// A fault of an owner of names or of directives, with the place at which it is told.
+/// A fault of an owner of names or of directives, with the place at which it is reported.
 #[derive(Debug, Drop)]
 pub(crate) struct OwnerFault {
     pub kind: FaultKind,
@@ -19,16 +20,26 @@ pub(crate) enum FaultKind {
     Duplicate(Text),
     /// The name of a type, or of a field of the subscription root, begins with `__`.
     ReservedName(Text),
-    /// A schema block after the first. The place is that of the word `schema`.
-    SecondSchema,
-    /// The first schema block has no line for queries. The place is that of the word `schema`.
-    NoQuery,
-    /// A description or a directive on a schema block.
-    SchemaDecoration,
-    /// `implements` on the subscription root, or a directive of the user's own on it or on one of its fields.
-    SubscriptionDecoration,
-    /// `@deprecated`, `@specifiedBy` or `@oneOf` where it may not stand, or with arguments that it doesn't take.
-    Attribute,
+    /// A form that is not supported here: a schema block after the first, or one without a line for queries, at the word
+    /// `schema`; a description or a directive on a schema block; `implements` on the subscription root, or a directive of
+    /// the user's own on it or on one of its fields; `@deprecated`, `@specifiedBy` or `@oneOf` where it may not stand, or
+    /// with arguments that it doesn't take.
+    Unsupported(What),
+}
+
+fn form_rank(form: What) -> u8
+    ensures rank { result ≡ form_rank form }
+    ensures within { result < 7 }
+{
+    match form {
+        What::Float => 0,
+        What::Extend => 1,
+        What::SecondSchema => 2,
+        What::NoQuery => 3,
+        What::SchemaDecoration => 4,
+        What::SubscriptionDecoration => 5,
+        What::Attribute => 6,
+    }
 }
 
 impl FaultKind {
@@ -38,11 +49,7 @@ impl FaultKind {
         match self {
             FaultKind::Duplicate(_) => 0,
             FaultKind::ReservedName(_) => 1,
-            FaultKind::SecondSchema => 2,
-            FaultKind::NoQuery => 3,
-            FaultKind::SchemaDecoration => 4,
-            FaultKind::SubscriptionDecoration => 5,
-            FaultKind::Attribute => 6,
+            FaultKind::Unsupported(form) => 2 + form_rank(*form),
         }
     }
 }

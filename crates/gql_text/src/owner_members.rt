@@ -1,4 +1,5 @@
 //! Arguments, fields and values of an enumeration.
+#![tactic(auto, using(crate::proofs::First::first_after_append))]
 
 ghost use Rattle.std.specs.Prelude.{◌≡◌, OnOk, flat_map};
 ghost use Rattle.gql_text.specs.Faults.{first_after};
@@ -8,13 +9,12 @@ use crate::owner_fault::OwnerFault;
 use crate::owner_names::check_names;
 use crate::owner_uses::{Owner, check_uses};
 use crate::owner_values::check_default;
-use gql_syntax::{EnumValue, Field, InputValue};
+use gql_text_syntax::{EnumValue, Field, InputValue};
 use std::alloc::{AllocError, Global};
 
-#[tactic(auto, using(crate::proofs::First::first_after_append))]
 fn check_input(
     alloc: Global,
-    input: &InputValue,
+    input: &InputValue<'_>,
     first: &mut Option<OwnerFault>,
 ) -> Result<(), AllocError>
     ensures { OnOk result (first.new ≡ first_after first.old (input_faults input.now)) }
@@ -25,7 +25,7 @@ fn check_input(
 
 fn check_each_input(
     alloc: Global,
-    inputs: &[InputValue],
+    inputs: &[InputValue<'_>],
     first: &mut Option<OwnerFault>,
 ) -> Result<(), AllocError>
     ensures { OnOk result (first.new ≡ first_after first.old (flat_map input_faults inputs.now)) }
@@ -37,10 +37,9 @@ fn check_each_input(
 }
 
 /// The arguments of one owner, or the fields of an input object.
-#[tactic(auto, using(crate::proofs::First::first_after_append))]
 pub(crate) fn check_inputs(
     alloc: Global,
-    inputs: &[InputValue],
+    inputs: &[InputValue<'_>],
     first: &mut Option<OwnerFault>,
 ) -> Result<(), AllocError>
     ensures { OnOk result (first.new ≡ first_after first.old (inputs_faults inputs.now)) }
@@ -49,10 +48,9 @@ pub(crate) fn check_inputs(
     check_each_input(alloc, inputs, first)
 }
 
-#[tactic(auto, using(crate::proofs::First::first_after_append))]
 fn check_field(
     alloc: Global,
-    field: &Field,
+    field: &Field<'_>,
     first: &mut Option<OwnerFault>,
 ) -> Result<(), AllocError>
     ensures { OnOk result (first.new ≡ first_after first.old (field_faults field.now)) }
@@ -63,7 +61,7 @@ fn check_field(
 
 fn check_each_field(
     alloc: Global,
-    fields: &[Field],
+    fields: &[Field<'_>],
     first: &mut Option<OwnerFault>,
 ) -> Result<(), AllocError>
     ensures { OnOk result (first.new ≡ first_after first.old (flat_map field_faults fields.now)) }
@@ -74,10 +72,9 @@ fn check_each_field(
     Ok(())
 }
 
-#[tactic(auto, using(crate::proofs::First::first_after_append))]
 pub(crate) fn check_fields(
     alloc: Global,
-    fields: &[Field],
+    fields: &[Field<'_>],
     first: &mut Option<OwnerFault>,
 ) -> Result<(), AllocError>
     ensures { OnOk result (first.new ≡ first_after first.old (fields_faults fields.now)) }
@@ -88,7 +85,7 @@ pub(crate) fn check_fields(
 
 fn check_enum_value(
     alloc: Global,
-    value: &EnumValue,
+    value: &EnumValue<'_>,
     first: &mut Option<OwnerFault>,
 ) -> Result<(), AllocError>
     ensures { OnOk result (first.new ≡ first_after first.old (enum_value_faults value.now)) }
@@ -98,10 +95,11 @@ fn check_enum_value(
 
 fn check_each_enum_value(
     alloc: Global,
-    values: &[EnumValue],
+    values: &[EnumValue<'_>],
     first: &mut Option<OwnerFault>,
 ) -> Result<(), AllocError>
-    ensures { OnOk result (first.new ≡ first_after first.old (flat_map enum_value_faults values.now)) }
+    ensures { OnOk result (first.new
+        ≡ first_after first.old (flat_map enum_value_faults values.now)) }
 {
     for value in values {
         check_enum_value(alloc, value, first)?;
@@ -109,10 +107,9 @@ fn check_each_enum_value(
     Ok(())
 }
 
-#[tactic(auto, using(crate::proofs::First::first_after_append))]
 pub(crate) fn check_enum_values(
     alloc: Global,
-    values: &[EnumValue],
+    values: &[EnumValue<'_>],
     first: &mut Option<OwnerFault>,
 ) -> Result<(), AllocError>
     ensures { OnOk result (first.new ≡ first_after first.old (enum_values_faults values.now)) }

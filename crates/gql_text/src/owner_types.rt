@@ -1,33 +1,28 @@
 //! What a definition may not have by itself.
+#![tactic(auto, using(crate::proofs::First::first_after_append))]
 
 ghost use Rattle.std.specs.Prelude.{◌≡◌, OnOk, flat_map};
 ghost use Rattle.std.specs.Option.{option_copied};
 ghost use Rattle.gql_text.specs.Faults.{first_after};
-ghost use Rattle.gql_text.specs.Owners.{definition_faults, description_faults, duplicates, head_faults, implements_decoration, implements_faults, is_reserved, no_names, object_faults, object_like_faults, reserved, schema_faults, subscription_faults, subscription_field_faults};
+ghost use Rattle.gql_text.specs.Owners.{definition_faults, description_faults, duplicates, head_faults, implements_decoration, implements_faults, no_names, object_faults, object_like_faults, reserved, schema_faults, subscription_faults, subscription_field_faults};
 ghost use Rattle.gql_text.specs.WrittenRoots.{is_root};
 
 use crate::owner_fault::{FaultKind, OwnerFault, note};
 use crate::owner_members::{check_enum_values, check_fields, check_inputs};
 use crate::owner_names::check_names;
 use crate::owner_uses::{Owner, check_custom_uses, check_schema_uses, check_uses};
-use gql_lexer::Text;
-use gql_syntax::{
-    Description, Field, Implements, Kind, ObjectLike, PlacedName, Root, Use, WrittenDefinition,
+use gql_text_lexer::{Text, is_reserved};
+use gql_text_syntax::{
+    Description, Field, Implements, Kind, ObjectLike, PlacedName, Root, Use, What,
+    WrittenDefinition,
 };
 use sqlite_items::Items;
 use std::alloc::{AllocError, Global};
 
-/// Whether a name begins with two underscores.
-#[tactic(auto, unfolding(crate::specs::Owners::is_reserved), using(std::proofs::lemmas::Str::Pattern::starts_text))]
-fn is_reserved(name: &str) -> bool
-    ensures { result ≡ is_reserved name.now }
-{
-    name.starts_with("__")
-}
-
+/// A reserved name, where it may not stand.
 fn check_reserved(
     alloc: Global,
-    key: &PlacedName,
+    key: &PlacedName<'_>,
     first: &mut Option<OwnerFault>,
 ) -> Result<(), AllocError>
     ensures { OnOk result (first.new ≡ first_after first.old (reserved key.now)) }
@@ -47,7 +42,7 @@ fn check_reserved(
 /// The members of a union, or the implemented names of one type.
 fn check_listed(
     alloc: Global,
-    names: &[PlacedName],
+    names: &[PlacedName<'_>],
     first: &mut Option<OwnerFault>,
 ) -> Result<(), AllocError>
     ensures { OnOk result (first.new ≡ first_after first.old (duplicates no_names names.now)) }
@@ -57,7 +52,7 @@ fn check_listed(
 
 fn check_implements(
     alloc: Global,
-    implements: &Option<Implements>,
+    implements: &Option<Implements<'_>>,
     first: &mut Option<OwnerFault>,
 ) -> Result<(), AllocError>
     ensures { OnOk result (first.new ≡ first_after first.old (implements_faults implements.now)) }
@@ -68,10 +63,9 @@ fn check_implements(
     }
 }
 
-#[tactic(auto, using(crate::proofs::First::first_after_append))]
 fn check_object_like(
     alloc: Global,
-    object: &ObjectLike,
+    object: &ObjectLike<'_>,
     first: &mut Option<OwnerFault>,
 ) -> Result<(), AllocError>
     ensures { OnOk result (first.new ≡ first_after first.old (object_like_faults object.now)) }
@@ -82,21 +76,25 @@ fn check_object_like(
     check_fields(alloc, object.fields.as_slice(), first)
 }
 
-fn check_implements_word(implements: &Option<Implements>, first: &mut Option<OwnerFault>)
+fn check_implements_word(implements: &Option<Implements<'_>>, first: &mut Option<OwnerFault>)
     ensures { first.new ≡ first_after first.old (implements_decoration implements.now) }
 {
     if let Some(found) = implements {
-        note(first, FaultKind::SubscriptionDecoration, found.at);
+        note(
+            first,
+            FaultKind::Unsupported(What::SubscriptionDecoration),
+            found.at,
+        );
     }
 }
 
-#[tactic(auto, using(crate::proofs::First::first_after_append))]
 fn check_subscription_field(
     alloc: Global,
-    field: &Field,
+    field: &Field<'_>,
     first: &mut Option<OwnerFault>,
 ) -> Result<(), AllocError>
-    ensures { OnOk result (first.new ≡ first_after first.old (subscription_field_faults field.now)) }
+    ensures { OnOk result (first.new
+        ≡ first_after first.old (subscription_field_faults field.now)) }
 {
     check_reserved(alloc, &field.key, first)?;
     check_custom_uses(field.uses.as_slice(), first);
@@ -105,10 +103,11 @@ fn check_subscription_field(
 
 fn check_subscription_fields(
     alloc: Global,
-    fields: &[Field],
+    fields: &[Field<'_>],
     first: &mut Option<OwnerFault>,
 ) -> Result<(), AllocError>
-    ensures { OnOk result (first.new ≡ first_after first.old (flat_map subscription_field_faults fields.now)) }
+    ensures { OnOk result (first.new
+        ≡ first_after first.old (flat_map subscription_field_faults fields.now)) }
 {
     for field in fields {
         check_subscription_field(alloc, field, first)?;
@@ -117,10 +116,9 @@ fn check_subscription_fields(
 }
 
 /// What the subscription root may not have.
-#[tactic(auto, using(crate::proofs::First::first_after_append))]
 fn check_subscription(
     alloc: Global,
-    object: &ObjectLike,
+    object: &ObjectLike<'_>,
     first: &mut Option<OwnerFault>,
 ) -> Result<(), AllocError>
     ensures { OnOk result (first.new ≡ first_after first.old (subscription_faults object.now)) }
@@ -139,14 +137,14 @@ fn is_root(root: Option<&str>, name: &str) -> bool
     }
 }
 
-#[tactic(auto, using(crate::proofs::First::first_after_append))]
 fn check_object(
     alloc: Global,
     root: Option<&str>,
-    object: &ObjectLike,
+    object: &ObjectLike<'_>,
     first: &mut Option<OwnerFault>,
 ) -> Result<(), AllocError>
-    ensures { OnOk result (first.new ≡ first_after first.old (object_faults (option_copied root.entry) object.now)) }
+    ensures { OnOk result (first.new
+        ≡ first_after first.old (object_faults (option_copied root.entry) object.now)) }
 {
     check_object_like(alloc, object, first)?;
     if !is_root(root, object.key.name.as_str()) {
@@ -155,23 +153,27 @@ fn check_object(
     check_subscription(alloc, object, first)
 }
 
-fn check_description(description: &Option<Description>, first: &mut Option<OwnerFault>)
+fn check_description(description: &Option<Description<'_>>, first: &mut Option<OwnerFault>)
     ensures { first.new ≡ first_after first.old (description_faults description.now) }
 {
     if let Some(found) = description {
-        note(first, FaultKind::SchemaDecoration, found.at);
+        note(
+            first,
+            FaultKind::Unsupported(What::SchemaDecoration),
+            found.at,
+        );
     }
 }
 
-#[tactic(auto, using(crate::proofs::First::first_after_append))]
 fn check_schema(
     alloc: Global,
-    description: &Option<Description>,
-    uses: &[Use],
-    roots: &[Root],
+    description: &Option<Description<'_>>,
+    uses: &[Use<'_>],
+    roots: &[Root<'_>],
     first: &mut Option<OwnerFault>,
 ) -> Result<(), AllocError>
-    ensures { OnOk result (first.new ≡ first_after first.old (schema_faults description.now uses.now roots.now)) }
+    ensures { OnOk result (first.new
+        ≡ first_after first.old (schema_faults description.now uses.now roots.now)) }
 {
     check_description(description, first);
     check_schema_uses(uses, first);
@@ -180,29 +182,29 @@ fn check_schema(
 }
 
 /// The name of a definition and its uses.
-#[tactic(auto, using(crate::proofs::First::first_after_append))]
 fn check_head(
     alloc: Global,
-    key: &PlacedName,
+    key: &PlacedName<'_>,
     owner: Owner,
-    uses: &Items<Use>,
+    uses: &Items<Use<'_>>,
     first: &mut Option<OwnerFault>,
 ) -> Result<(), AllocError>
-    ensures { OnOk result (first.new ≡ first_after first.old (head_faults key.now owner uses.now)) }
+    ensures { OnOk result (first.new
+        ≡ first_after first.old (head_faults key.now owner uses.now)) }
 {
     check_reserved(alloc, key, first)?;
     check_uses(alloc, owner, uses.as_slice(), first)
 }
 
 /// The faults of one definition by itself, given the name of the subscription root.
-#[tactic(auto, using(crate::proofs::First::first_after_append))]
 pub(crate) fn check_definition(
     alloc: Global,
     root: Option<&str>,
-    definition: &WrittenDefinition,
+    definition: &WrittenDefinition<'_>,
     first: &mut Option<OwnerFault>,
 ) -> Result<(), AllocError>
-    ensures { OnOk result (first.new ≡ first_after first.old (definition_faults (option_copied root.entry) definition.now)) }
+    ensures { OnOk result (first.new
+        ≡ first_after first.old (definition_faults (option_copied root.entry) definition.now)) }
 {
     match &definition.kind {
         Kind::Schema { uses, roots, .. } => {

@@ -1,16 +1,17 @@
 //! Uses of directives, as their owners permit them.
+#![tactic(auto, using(crate::proofs::First::first_after_append))]
 
 ghost use Rattle.std.specs.Prelude.{◌≡◌, OnOk, flat_map};
-ghost use Rattle.std.specs.List.{filter_map};
 ghost use Rattle.gql_text.specs.declared.owner_fault.FaultKind.TheVariants as fault;
+ghost use Rattle.gql_text_syntax.specs.declared.error.What.TheVariants as what;
 ghost use Rattle.gql_text.specs.Faults.{first_after};
-ghost use Rattle.gql_text.specs.Owners.{attribute_key, custom_use_faults, duplicates, fault_where, is_attribute, is_empty, is_misused, is_one_string, is_string, may_be_one_of, may_deprecate, may_specify, no_names, schema_use_faults, use_faults, uses_faults};
+ghost use Rattle.gql_text.specs.Owners.{attribute_faults, attribute_key, custom_use_faults, fault_where, is_attribute, has_no_arguments, is_misused, is_one_string, is_string, may_be_one_of, may_deprecate, may_specify, schema_use_faults, use_faults, uses_faults};
 ghost use Rattle.gql_text.specs.Seen.{names_in, with_key, key_faults};
 
 use crate::owner_fault::{FaultKind, OwnerFault, note};
 use crate::owner_names::check_name;
 use crate::owner_values::check_arguments;
-use gql_syntax::{Argument, Literal, Use};
+use gql_text_syntax::{Argument, Literal, Use, What};
 use std::alloc::{AllocError, Global};
 use std::collections::BTreeSet;
 
@@ -30,7 +31,7 @@ fn is_attribute(name: &str) -> bool
     name == "deprecated" || name == "specifiedBy" || name == "oneOf"
 }
 
-fn is_string(value: &Literal) -> bool
+fn is_string(value: &Literal<'_>) -> bool
     ensures { result ≡ is_string value.now }
 {
     match value {
@@ -39,7 +40,7 @@ fn is_string(value: &Literal) -> bool
     }
 }
 
-fn is_one_string(name: &str, arguments: &[Argument]) -> bool
+fn is_one_string(name: &str, arguments: &[Argument<'_>]) -> bool
     ensures { result ≡ is_one_string name.now arguments.now }
 {
     match arguments {
@@ -48,22 +49,22 @@ fn is_one_string(name: &str, arguments: &[Argument]) -> bool
     }
 }
 
-fn is_empty(arguments: &[Argument]) -> bool
-    ensures { result ≡ is_empty arguments.now }
+fn has_no_arguments(arguments: &[Argument<'_>]) -> bool
+    ensures { result ≡ has_no_arguments arguments.now }
 {
     arguments.is_empty()
 }
 
-fn may_deprecate(owner: Owner, arguments: &[Argument]) -> bool
+fn may_deprecate(owner: Owner, arguments: &[Argument<'_>]) -> bool
     ensures { result ≡ may_deprecate owner arguments.now }
 {
     match owner {
-        Owner::Member => is_empty(arguments) || is_one_string("reason", arguments),
+        Owner::Member => has_no_arguments(arguments) || is_one_string("reason", arguments),
         _ => false,
     }
 }
 
-fn may_specify(owner: Owner, arguments: &[Argument]) -> bool
+fn may_specify(owner: Owner, arguments: &[Argument<'_>]) -> bool
     ensures { result ≡ may_specify owner arguments.now }
 {
     match owner {
@@ -72,16 +73,16 @@ fn may_specify(owner: Owner, arguments: &[Argument]) -> bool
     }
 }
 
-fn may_be_one_of(owner: Owner, arguments: &[Argument]) -> bool
+fn may_be_one_of(owner: Owner, arguments: &[Argument<'_>]) -> bool
     ensures { result ≡ may_be_one_of owner arguments.now }
 {
     match owner {
-        Owner::Input => is_empty(arguments),
+        Owner::Input => has_no_arguments(arguments),
         _ => false,
     }
 }
 
-fn is_misused(owner: Owner, one: &Use) -> bool
+fn is_misused(owner: Owner, one: &Use<'_>) -> bool
     ensures { result ≡ is_misused owner one.now }
 {
     let name = one.name.as_str();
@@ -91,19 +92,19 @@ fn is_misused(owner: Owner, one: &Use) -> bool
         || (name == "oneOf" && !may_be_one_of(owner, arguments))
 }
 
-fn check_misuse(owner: Owner, one: &Use, first: &mut Option<OwnerFault>)
-    ensures { first.new ≡ first_after first.old (fault_where (is_misused owner one.now) fault.Attribute one.now.at) }
+fn check_misuse(owner: Owner, one: &Use<'_>, first: &mut Option<OwnerFault>)
+    ensures { first.new
+        ≡ first_after first.old (fault_where (is_misused owner one.now) (fault.Unsupported what.Attribute) one.now.at) }
 {
     if is_misused(owner, one) {
-        note(first, FaultKind::Attribute, one.at);
+        note(first, FaultKind::Unsupported(What::Attribute), one.at);
     }
 }
 
-#[tactic(auto, using(crate::proofs::First::first_after_append))]
 fn check_use(
     alloc: Global,
     owner: Owner,
-    one: &Use,
+    one: &Use<'_>,
     first: &mut Option<OwnerFault>,
 ) -> Result<(), AllocError>
     ensures { OnOk result (first.new ≡ first_after first.old (use_faults owner one.now)) }
@@ -114,12 +115,14 @@ fn check_use(
 
 fn check_attribute<'t>(
     alloc: Global,
-    one: &'t Use,
+    one: &'t Use<'_>,
     earlier: &mut BTreeSet<&'t str>,
     first: &mut Option<OwnerFault>,
 ) -> Result<(), AllocError>
-    ensures names { OnOk result (names_in earlier.new ≡ with_key (attribute_key one.now) (names_in earlier.old)) }
-    ensures faults { OnOk result (first.new ≡ first_after first.old (key_faults (attribute_key one.now) (names_in earlier.old))) }
+    ensures names { OnOk result (names_in earlier.new
+        ≡ with_key (attribute_key one.now) (names_in earlier.old)) }
+    ensures faults { OnOk result (first.new
+        ≡ first_after first.old (key_faults (attribute_key one.now) (names_in earlier.old))) }
 {
     if !is_attribute(one.name.as_str()) {
         return Ok(());
@@ -128,13 +131,12 @@ fn check_attribute<'t>(
 }
 
 /// `@deprecated`, `@specifiedBy` or `@oneOf` a second time on one owner.
-#[tactic(auto, using(crate::proofs::Names::few_options))]
 fn check_attributes(
     alloc: Global,
-    uses: &[Use],
+    uses: &[Use<'_>],
     first: &mut Option<OwnerFault>,
 ) -> Result<(), AllocError>
-    ensures { OnOk result (first.new ≡ first_after first.old (duplicates no_names (filter_map attribute_key uses.now))) }
+    ensures { OnOk result (first.new ≡ first_after first.old (attribute_faults uses.now)) }
 {
     if uses.len() < 2 {
         return Ok(());
@@ -149,10 +151,11 @@ fn check_attributes(
 fn check_each_use(
     alloc: Global,
     owner: Owner,
-    uses: &[Use],
+    uses: &[Use<'_>],
     first: &mut Option<OwnerFault>,
 ) -> Result<(), AllocError>
-    ensures { OnOk result (first.new ≡ first_after first.old (flat_map (use_faults owner) uses.now)) }
+    ensures { OnOk result (first.new
+        ≡ first_after first.old (flat_map (use_faults owner) uses.now)) }
 {
     for one in uses {
         check_use(alloc, owner, one, first)?;
@@ -160,11 +163,10 @@ fn check_each_use(
     Ok(())
 }
 
-#[tactic(auto, using(crate::proofs::First::first_after_append))]
 pub(crate) fn check_uses(
     alloc: Global,
     owner: Owner,
-    uses: &[Use],
+    uses: &[Use<'_>],
     first: &mut Option<OwnerFault>,
 ) -> Result<(), AllocError>
     ensures { OnOk result (first.new ≡ first_after first.old (uses_faults owner uses.now)) }
@@ -173,16 +175,20 @@ pub(crate) fn check_uses(
     check_each_use(alloc, owner, uses, first)
 }
 
-fn check_custom_use(one: &Use, first: &mut Option<OwnerFault>)
+fn check_custom_use(one: &Use<'_>, first: &mut Option<OwnerFault>)
     ensures { first.new ≡ first_after first.old (custom_use_faults one.now) }
 {
     if !is_attribute(one.name.as_str()) {
-        note(first, FaultKind::SubscriptionDecoration, one.at);
+        note(
+            first,
+            FaultKind::Unsupported(What::SubscriptionDecoration),
+            one.at,
+        );
     }
 }
 
 /// The uses that are none of `@deprecated`, `@specifiedBy` and `@oneOf`, where the subscription root may have no other.
-pub(crate) fn check_custom_uses(uses: &[Use], first: &mut Option<OwnerFault>)
+pub(crate) fn check_custom_uses(uses: &[Use<'_>], first: &mut Option<OwnerFault>)
     ensures { first.new ≡ first_after first.old (flat_map custom_use_faults uses.now) }
 {
     for one in uses {
@@ -191,10 +197,14 @@ pub(crate) fn check_custom_uses(uses: &[Use], first: &mut Option<OwnerFault>)
 }
 
 /// The uses of a schema block, which may have none.
-pub(crate) fn check_schema_uses(uses: &[Use], first: &mut Option<OwnerFault>)
+pub(crate) fn check_schema_uses(uses: &[Use<'_>], first: &mut Option<OwnerFault>)
     ensures { first.new ≡ first_after first.old (flat_map schema_use_faults uses.now) }
 {
     for one in uses {
-        note(first, FaultKind::SchemaDecoration, one.at);
+        note(
+            first,
+            FaultKind::Unsupported(What::SchemaDecoration),
+            one.at,
+        );
     }
 }

@@ -1,4 +1,5 @@
 //! Keys that repeat in an object, at any depth of a value.
+#![tactic(auto, using(crate::proofs::First::first_after_append))]
 
 ghost use Rattle.std.specs.Prelude.{◌≡◌, OnOk, flat_map};
 ghost use Rattle.gql_text.specs.Faults.{first_after};
@@ -6,14 +7,13 @@ ghost use Rattle.gql_text.specs.Owners.{value_faults, argument_faults, default_f
 
 use crate::owner_fault::OwnerFault;
 use crate::owner_names::check_names;
-use gql_syntax::{Argument, Literal, PlacedName};
+use gql_text_syntax::{Argument, Literal, PlacedName};
 use std::alloc::{AllocError, Global};
 
 #[cycle(values)]
-#[tactic(auto, using(crate::proofs::First::first_after_append))]
 fn check_items(
     alloc: Global,
-    items: &[Literal],
+    items: &[Literal<'_>],
     first: &mut Option<OwnerFault>,
 ) -> Result<(), AllocError>
     ensures { OnOk result (first.new ≡ first_after first.old (flat_map value_faults items.now)) }
@@ -25,13 +25,13 @@ fn check_items(
 }
 
 #[cycle(values)]
-#[tactic(auto, using(crate::proofs::First::first_after_append))]
 fn check_entries(
     alloc: Global,
-    entries: &[(PlacedName, Literal)],
+    entries: &[(PlacedName<'_>, Literal<'_>)],
     first: &mut Option<OwnerFault>,
 ) -> Result<(), AllocError>
-    ensures { OnOk result (first.new ≡ first_after first.old (flat_map (λ e. value_faults e.1) entries.now)) }
+    ensures { OnOk result (first.new
+        ≡ first_after first.old (flat_map (λ e. value_faults e.1) entries.now)) }
 {
     for entry in entries {
         check_value(alloc, &entry.1, first)?;
@@ -40,10 +40,9 @@ fn check_entries(
 }
 
 #[cycle(values)]
-#[tactic(auto, using(crate::proofs::First::first_after_append))]
 pub(crate) fn check_value(
     alloc: Global,
-    value: &Literal,
+    value: &Literal<'_>,
     first: &mut Option<OwnerFault>,
 ) -> Result<(), AllocError>
     ensures { OnOk result (first.new ≡ first_after first.old (value_faults value.now)) }
@@ -60,7 +59,7 @@ pub(crate) fn check_value(
 
 pub(crate) fn check_default(
     alloc: Global,
-    default: &Option<Literal>,
+    default: &Option<Literal<'_>>,
     first: &mut Option<OwnerFault>,
 ) -> Result<(), AllocError>
     ensures { OnOk result (first.new ≡ first_after first.old (default_faults default.now)) }
@@ -71,13 +70,13 @@ pub(crate) fn check_default(
     }
 }
 
-#[tactic(auto, using(crate::proofs::First::first_after_append))]
 fn check_argument_values(
     alloc: Global,
-    arguments: &[Argument],
+    arguments: &[Argument<'_>],
     first: &mut Option<OwnerFault>,
 ) -> Result<(), AllocError>
-    ensures { OnOk result (first.new ≡ first_after first.old (flat_map (λ a. value_faults a.value) arguments.now)) }
+    ensures { OnOk result (first.new
+        ≡ first_after first.old (flat_map (λ a. value_faults a.value) arguments.now)) }
 {
     for argument in arguments {
         check_value(alloc, &argument.value, first)?;
@@ -85,10 +84,9 @@ fn check_argument_values(
     Ok(())
 }
 
-#[tactic(auto, using(crate::proofs::First::first_after_append))]
 pub(crate) fn check_arguments(
     alloc: Global,
-    arguments: &[Argument],
+    arguments: &[Argument<'_>],
     first: &mut Option<OwnerFault>,
 ) -> Result<(), AllocError>
     ensures { OnOk result (first.new ≡ first_after first.old (argument_faults arguments.now)) }

@@ -1,12 +1,13 @@
-//! The roots of a document: section 3.3 of the GraphQL specification, October 2021.
+//! The roots of a document, looked up in the written tree: section 3.3 of the GraphQL specification, October 2021.
 
 ghost use Rattle.std.specs.Prelude.{◌≡◌};
-ghost use Rattle.std.specs.List.{find, list_any};
+ghost use Rattle.std.specs.List.{list_any};
 ghost use Rattle.std.specs.Option.{option_copied};
-ghost use Rattle.gql_text.specs.Roots.{default_name, default_root, defines, is_schema, lines_of, root_by, root_line, root_of, same_operation};
+ghost use Rattle.gql_text.specs.DocumentOf.{document_of};
+ghost use Rattle.gql_text.specs.Roots.{default_name, root_of, same_operation};
+ghost use Rattle.gql_text.specs.WrittenRoots.{default_root_of, defines, first_schema, is_schema, root_by, roots_of, written_line};
 
-use crate::document::{Definition, Document, RootLine};
-use gql_syntax::OperationType;
+use gql_text_syntax::{Kind, OperationType, Root, WrittenDefinition};
 
 pub(crate) fn same_operation(a: OperationType, b: OperationType) -> bool
     ensures { result ≡ same_operation a b }
@@ -29,48 +30,56 @@ fn default_name(kind: OperationType) -> &'static str
     }
 }
 
-fn is_schema(definition: &Definition) -> bool
-    ensures { result ≡ is_schema definition.now }
+pub(crate) fn is_schema(kind: &Kind<'_>) -> bool
+    ensures { result ≡ is_schema kind.now }
 {
-    match definition {
-        Definition::SchemaBlock { .. } => true,
+    match kind {
+        Kind::Schema { .. } => true,
         _ => false,
     }
 }
 
-fn lines_of(definition: &Definition) -> &[RootLine]
-    ensures { result.now ≡ lines_of definition.now }
+pub(crate) fn first_schema<'d, 't>(
+    definitions: &'d [WrittenDefinition<'t>],
+) -> Option<&'d WrittenDefinition<'t>>
+    ensures { option_copied result ≡ first_schema definitions.now }
 {
-    match definition {
-        Definition::SchemaBlock { roots, .. } => roots.as_slice(),
+    definitions.iter().find(|d| is_schema(&d.kind))
+}
+
+fn roots_of<'d, 't>(kind: &'d Kind<'t>) -> &'d [Root<'t>]
+    ensures { result.now ≡ roots_of kind.now }
+{
+    match kind {
+        Kind::Schema { roots, .. } => roots.as_slice(),
         _ => &[],
     }
 }
 
-fn root_line(kind: OperationType, lines: &[RootLine]) -> Option<&str>
-    ensures { option_copied result ≡ root_line kind lines.now }
+fn written_line<'t>(kind: OperationType, roots: &[Root<'t>]) -> Option<&'t str>
+    ensures { option_copied result ≡ written_line kind roots.now }
 {
-    let found = lines.iter().find(|line| same_operation(kind, line.kind))?;
+    let found = roots.iter().find(|r| same_operation(kind, r.kind))?;
     Some(found.name.as_str())
 }
 
-fn defines(name: &str, definition: &Definition) -> bool
-    ensures { result ≡ defines name.now definition.now }
+fn defines(name: &str, kind: &Kind<'_>) -> bool
+    ensures { result ≡ defines name.now kind.now }
 {
-    match definition {
-        Definition::Object { head, .. } => head.name.as_str() == name,
+    match kind {
+        Kind::Object(object) => object.key.name.as_str() == name,
         _ => false,
     }
 }
 
-fn is_defined(name: &str, definitions: &[Definition]) -> bool
-    ensures { result ≡ list_any (defines name.now) definitions.now }
+fn is_defined(name: &str, definitions: &[WrittenDefinition<'_>]) -> bool
+    ensures { result ≡ list_any (λ d. defines name.now d.kind) definitions.now }
 {
-    definitions.iter().any(|d| defines(name, d))
+    definitions.iter().any(|d| defines(name, &d.kind))
 }
 
-fn default_root(kind: OperationType, definitions: &[Definition]) -> Option<&'static str>
-    ensures { option_copied result ≡ default_root kind (list_any (defines (default_name kind)) definitions.now) }
+fn default_root(kind: OperationType, definitions: &[WrittenDefinition<'_>]) -> Option<&'static str>
+    ensures { option_copied result ≡ default_root_of kind definitions.now }
 {
     let name = default_name(kind);
     match kind {
@@ -80,32 +89,26 @@ fn default_root(kind: OperationType, definitions: &[Definition]) -> Option<&'sta
     }
 }
 
-fn first_schema(definitions: &[Definition]) -> Option<&Definition>
-    ensures { option_copied result ≡ find is_schema definitions.now }
-{
-    definitions.iter().find(|d| is_schema(d))
-}
-
-fn root_by<'d>(
-    schema: Option<&'d Definition>,
+fn root_by<'t>(
+    schema: Option<&WrittenDefinition<'t>>,
     kind: OperationType,
-    definitions: &'d [Definition],
-) -> Option<&'d str>
+    definitions: &[WrittenDefinition<'t>],
+) -> Option<&'t str>
     ensures { option_copied result ≡ root_by (option_copied schema.entry) kind definitions.now }
 {
     match schema {
-        Some(found) => root_line(kind, lines_of(found)),
+        Some(found) => written_line(kind, roots_of(&found.kind)),
         None => default_root(kind, definitions),
     }
 }
 
-impl Document {
-    /// The name of a root: what the first line of its kind in the first schema block says. Without a block it is
-    /// `Query`, and `Mutation` and `Subscription` where a `type` of that name is defined.
-    pub fn root(&self, kind: OperationType) -> Option<&str>
-        ensures { option_copied result ≡ root_of kind self.now }
-    {
-        let definitions = self.definitions.as_slice();
-        root_by(first_schema(definitions), kind, definitions)
-    }
+/// The name of a root: what the first schema block says, or else the default.
+#[tactic(auto, using(crate::proofs::Rooted::root_stays))]
+pub(crate) fn root_name<'t>(
+    kind: OperationType,
+    definitions: &[WrittenDefinition<'t>],
+) -> Option<&'t str>
+    ensures { option_copied result ≡ root_of kind (document_of definitions.now) }
+{
+    root_by(first_schema(definitions), kind, definitions)
 }

@@ -1,144 +1,11 @@
 //! The rules of a schema over types that are built in code, each with its sentence.
 
-use gql_dynamic::{
-    BuildError, Enum, Field, InputObject, InputValue, Interface, InterfaceField, Object,
-    OutOfMemory, Scalar, SchemaError, Subscription, SubscriptionField, Type, Union,
-};
-use gql_schema::Schema;
-use gql_value::{ConstValue, TypeRef};
+use crate::asserting::{got, same};
+use crate::rows::Reference::{List, Named, NonNull};
+use crate::rows::{Member, Row, built};
+use gql_check::{Schema, SchemaError};
 use std::alloc::Global;
 use std::process::Abort;
-
-/// A type reference.
-#[derive(Clone, Copy)]
-enum Reference {
-    Named(&'static str),
-    NonNull(&'static str),
-    /// `[N!]!`
-    List(&'static str),
-}
-
-use Reference::{List, Named, NonNull};
-
-/// An argument.
-type Argument = (&'static str, Reference);
-
-/// A field, and the arguments that it has.
-type Member<'a> = (&'static str, Reference, &'a [Argument]);
-
-/// A field of an input object, and whether it has a default.
-type Input = (&'static str, Reference, bool);
-
-/// A type, with its fields and then the interfaces that it implements.
-#[derive(Clone, Copy)]
-enum Row<'a> {
-    Scalar(&'static str),
-    Enum(&'static str),
-    Object(&'static str, &'a [Member<'a>], &'a [&'static str]),
-    /// An object with a key.
-    Entity(&'static str, &'a [Member<'a>]),
-    Interface(&'static str, &'a [Member<'a>], &'a [&'static str]),
-    Union(&'static str, &'a [&'static str]),
-    Input(&'static str, &'a [Input]),
-    OneOf(&'static str, &'a [Input]),
-    Subscription(&'static str, &'a [Member<'a>]),
-}
-
-fn type_ref(alloc: Global, ty: Reference) -> Result<TypeRef, OutOfMemory> {
-    match ty {
-        Named(name) => TypeRef::named(alloc, name),
-        NonNull(name) => TypeRef::named_nn(alloc, name),
-        List(name) => TypeRef::named_nn_list_nn(alloc, name),
-    }
-}
-
-fn argument(alloc: Global, argument: &Argument) -> Result<InputValue, OutOfMemory> {
-    InputValue::new(alloc, argument.0, type_ref(alloc, argument.1)?)
-}
-
-fn field(alloc: Global, member: &Member<'_>) -> Result<Field, OutOfMemory> {
-    let mut field = Field::new(alloc, member.0, type_ref(alloc, member.1)?)?;
-    for row in member.2 {
-        field = field.argument(argument(alloc, row)?)?;
-    }
-    Ok(field)
-}
-
-fn interface_field(alloc: Global, member: &Member<'_>) -> Result<InterfaceField, OutOfMemory> {
-    let mut field = InterfaceField::new(alloc, member.0, type_ref(alloc, member.1)?)?;
-    for row in member.2 {
-        field = field.argument(argument(alloc, row)?)?;
-    }
-    Ok(field)
-}
-
-fn object(
-    alloc: Global,
-    name: &str,
-    members: &[Member<'_>],
-    interfaces: &[&'static str],
-) -> Result<Object, BuildError> {
-    let mut object = Object::new(alloc, name)?;
-    for member in members {
-        object = object.field(field(alloc, member)?)?;
-    }
-    for interface in interfaces {
-        object = object.implement(interface)?;
-    }
-    Ok(object)
-}
-
-fn interface(
-    alloc: Global,
-    name: &str,
-    members: &[Member<'_>],
-    interfaces: &[&'static str],
-) -> Result<Interface, BuildError> {
-    let mut interface = Interface::new(alloc, name)?;
-    for member in members {
-        interface = interface.field(interface_field(alloc, member)?)?;
-    }
-    for name in interfaces {
-        interface = interface.implement(name)?;
-    }
-    Ok(interface)
-}
-
-fn union(alloc: Global, name: &str, members: &[&'static str]) -> Result<Union, OutOfMemory> {
-    let mut union = Union::new(alloc, name)?;
-    for member in members {
-        union = union.possible_type(member)?;
-    }
-    Ok(union)
-}
-
-fn input_object(alloc: Global, name: &str, inputs: &[Input]) -> Result<InputObject, BuildError> {
-    let mut object = InputObject::new(alloc, name)?;
-    for input in inputs {
-        let mut field = InputValue::new(alloc, input.0, type_ref(alloc, input.1)?)?;
-        if input.2 {
-            field = field.default_value(ConstValue::Null)?;
-        }
-        object = object.field(field)?;
-    }
-    Ok(object)
-}
-
-fn subscription(
-    alloc: Global,
-    name: &str,
-    members: &[Member<'_>],
-) -> Result<Subscription, BuildError> {
-    let mut object = Subscription::new(alloc, name)?;
-    for member in members {
-        object = object.field(SubscriptionField::new(
-            alloc,
-            member.0,
-            type_ref(alloc, member.1)?,
-        )?)?;
-    }
-    Ok(object)
-}
 
 /// The names of the roots for mutations and subscriptions.
 type Roots = (Option<&'static str>, Option<&'static str>);
@@ -146,62 +13,32 @@ type Roots = (Option<&'static str>, Option<&'static str>);
 /// Roots and types, and the sentence of the first rule that they break, or nothing.
 type Case = (Roots, &'static [Row<'static>], &'static str);
 
+/// Builds a schema of the types.
+fn finished(
+    rt: &impl Abort,
+    alloc: Global,
+    roots: Roots,
+    rows: &[Row<'_>],
+) -> Result<(), SchemaError> {
+    let mut builder = got(rt, Schema::build(alloc, "Query", roots.0, roots.1));
+    for row in rows {
+        builder = builder.register(built(rt, alloc, *row))?;
+    }
+    builder.finish()?;
+    Ok(())
+}
+
 /// The sentence of the first rule that the types break, or nothing.
 fn told(rt: &impl Abort, alloc: Global, roots: Roots, rows: &[Row<'_>]) -> String {
-    let mut builder = Schema::build(alloc, "Query", roots.0, roots.1).expect(rt, "memory");
-    for row in rows {
-        let added = match *row {
-            Row::Scalar(name) => {
-                builder.register(Type::from(Scalar::new(alloc, name).expect(rt, "memory")))
-            }
-            Row::Enum(name) => {
-                builder.register(Type::from(Enum::new(alloc, name).expect(rt, "memory")))
-            }
-            Row::Object(name, members, interfaces) => {
-                let object = object(alloc, name, members, interfaces).expect(rt, "memory");
-                builder.register(Type::from(object))
-            }
-            Row::Entity(name, members) => {
-                let object = object(alloc, name, members, &[]).expect(rt, "memory");
-                let object = object.key("v").expect(rt, "memory");
-                builder.register(Type::from(object))
-            }
-            Row::Interface(name, members, interfaces) => {
-                let interface = interface(alloc, name, members, interfaces).expect(rt, "memory");
-                builder.register(Type::from(interface))
-            }
-            Row::Union(name, members) => {
-                let union = union(alloc, name, members).expect(rt, "memory");
-                builder.register(Type::from(union))
-            }
-            Row::Input(name, inputs) => {
-                let object = input_object(alloc, name, inputs).expect(rt, "memory");
-                builder.register(Type::from(object))
-            }
-            Row::OneOf(name, inputs) => {
-                let object = input_object(alloc, name, inputs).expect(rt, "memory");
-                builder.register(Type::from(object.oneof()))
-            }
-            Row::Subscription(name, members) => {
-                let object = subscription(alloc, name, members).expect(rt, "memory");
-                builder.register(Type::from(object))
-            }
-        };
-        builder = match added {
-            Ok(builder) => builder,
-            Err(error) => return error.message(alloc).expect(rt, "memory"),
-        };
-    }
-    match builder.finish() {
-        Ok(_) => String::new(alloc),
-        Err(error) => error.message(alloc).expect(rt, "memory"),
+    match finished(rt, alloc, roots, rows) {
+        Ok(()) => String::new(alloc),
+        Err(error) => got(rt, error.message(alloc)),
     }
 }
 
 fn hold(rt: &impl Abort, alloc: Global, cases: &[Case]) {
     for (roots, rows, want) in cases {
-        let text = told(rt, alloc, *roots, rows);
-        assert_eq!(rt; text.as_str(), *want);
+        same(rt, told(rt, alloc, *roots, rows).as_str(), want, "types");
     }
 }
 

@@ -1,105 +1,134 @@
 //! Schemas that are built in code, and the registries that are made of them.
 
-use gql_dynamic::{Field, Interface, InterfaceField, Object, OutOfMemory, Type};
-use gql_meta::{DirectiveLocation, IntrospectionMode, MetaDirective, MetaType};
-use gql_schema::Schema;
-use gql_value::TypeRef;
-use indexmap::IndexMap;
+use crate::asserting::{add_word, debugged, got, same};
+use crate::rows::Reference::Named;
+use crate::rows::{Member, Row, built};
+use gql_check::{Registry, Schema, SchemaBuilder};
+use gql_dynamic::{Field, Object, Scalar, Type};
+use gql_registry::{IntrospectionMode, MetaDirective, MetaType};
+use gql_text::TypeRef;
 use std::alloc::Global;
 use std::process::Abort;
 
-/// An object of one field that implements these interfaces.
-fn object(rt: &impl Abort, alloc: Global, name: &str, interfaces: &[&str]) -> Object {
-    let ty = TypeRef::named(alloc, "Int").expect(rt, "memory");
-    let field = Field::new(alloc, "v", ty).expect(rt, "memory");
-    let mut object = Object::new(alloc, name).expect(rt, "memory");
-    object = object.field(field).expect(rt, "a new field");
-    for interface in interfaces {
-        object = object.implement(interface).expect(rt, "a new interface");
-    }
-    object
+const V: Member<'static> = ("v", Named("Int"), &[]);
+
+/// A builder with a query root of one field.
+fn begun(rt: &impl Abort, alloc: Global) -> SchemaBuilder {
+    let builder = got(rt, Schema::build(alloc, "Query", None, None));
+    let query = built(rt, alloc, Row::Object("Query", &[V], &[]));
+    got(rt, builder.register(query))
 }
 
-/// An interface of the same field.
-fn interface(rt: &impl Abort, alloc: Global, name: &str) -> Interface {
-    let ty = TypeRef::named(alloc, "Int").expect(rt, "memory");
-    let field = InterfaceField::new(alloc, "v", ty).expect(rt, "memory");
-    let interface = Interface::new(alloc, name).expect(rt, "memory");
-    interface.field(field).expect(rt, "a new field")
+/// A schema of three objects that implement an interface.
+fn implementers(rt: &impl Abort, alloc: Global) -> Schema {
+    let mut builder = got(rt, Schema::build(alloc, "Query", None, None));
+    for row in [
+        Row::Object("Query", &[V], &["I"]),
+        Row::Object("B", &[V], &["I"]),
+        Row::Object("A", &[V], &["I"]),
+        Row::Interface("I", &[V], &[]),
+    ] {
+        builder = got(rt, builder.register(built(rt, alloc, row)));
+    }
+    got(rt, builder.finish())
 }
 
 /// The names of the possible types of a type.
-fn possible_types(alloc: Global, ty: &MetaType) -> Result<String, OutOfMemory> {
+pub(crate) fn possible_types(rt: &impl Abort, alloc: Global, ty: Option<&MetaType>) -> String {
     let mut out = String::new(alloc);
-    if let Some(names) = ty.possible_types() {
+    if let Some(names) = ty.and_then(|ty| ty.possible_types()) {
         for name in names.iter() {
-            out.push_str(name.as_str())?;
-            out.push_str(" ")?;
+            add_word(rt, &mut out, name.as_str());
         }
     }
-    Ok(out)
+    out
 }
 
 #[test]
 fn implementers_are_possible_types_in_the_order_of_registration(rt: HostRuntime) {
-    let alloc = rt.alloc();
-    let mut builder = Schema::build(alloc, "Query", None, None).expect(&rt, "memory");
-    for name in ["Query", "B", "A"] {
-        let object = object(&rt, alloc, name, &["I"]);
-        builder = builder
-            .register(Type::from(object))
-            .expect(&rt, "a new type");
-    }
-    let interface = Type::from(interface(&rt, alloc, "I"));
-    builder = builder.register(interface).expect(&rt, "a new type");
-    let schema = builder.finish().expect(&rt, "no rule is broken");
-    let interface = schema.registry().types().get("I").expect(&rt, "the type");
-    let names = possible_types(alloc, interface).expect(&rt, "memory");
-    assert_eq!(rt; names.as_str(), "Query B A ");
+    let schema = implementers(&rt, rt.alloc());
+    let interface = schema.registry().types().get("I");
+    let names = possible_types(&rt, rt.alloc(), interface);
+    same(&rt, names.as_str(), "Query B A ", "I");
 }
 
-/// The definition of a directive without a description, on fields.
-fn directive(alloc: Global, name: &str) -> Result<MetaDirective, OutOfMemory> {
-    Ok(MetaDirective {
-        name: String::from_str(alloc, name)?,
-        description: None,
-        locations: Vec::from_slice(alloc, &[DirectiveLocation::Field])?,
-        args: IndexMap::new(alloc),
-        is_repeatable: false,
-        visible: None,
-        composable: None,
-    })
+/// The definition of a system directive.
+pub(crate) fn directive(rt: &impl Abort, alloc: Global, name: &str) -> MetaDirective {
+    let mut registry = Registry::new(alloc);
+    got(rt, registry.add_system_types());
+    match registry.directives().get(name) {
+        Some(directive) => got(rt, directive.try_clone(alloc)),
+        None => panic!(rt; "no directive"),
+    }
+}
+
+/// Each directive of a registry, and whether it is repeatable.
+fn directives(rt: &impl Abort, alloc: Global, registry: &Registry) -> String {
+    let mut out = String::new(alloc);
+    for directive in registry.directives().values() {
+        add_word(rt, &mut out, directive.name.as_str());
+        if directive.is_repeatable {
+            add_word(rt, &mut out, "repeatable");
+        }
+    }
+    out
 }
 
 #[test]
 fn an_added_directive_takes_the_place_of_the_systems(rt: HostRuntime) {
     let alloc = rt.alloc();
-    let query = Type::from(object(&rt, alloc, "Query", &[]));
-    let builder = Schema::build(alloc, "Query", None, None).expect(&rt, "memory");
-    let builder = builder.register(query).expect(&rt, "a new type");
-    let skip = directive(alloc, "skip").expect(&rt, "memory");
-    let builder = builder.directive(skip).expect(&rt, "memory");
-    let schema = builder.finish().expect(&rt, "no rule is broken");
-    assert_eq!(rt; schema.registry().directives().len(), 5);
-    let skip = schema
-        .registry()
-        .directives()
-        .get("skip")
-        .expect(&rt, "the directive");
-    assert!(rt; skip.description.is_none());
+    let builder = begun(&rt, alloc);
+    let mut skip = directive(&rt, alloc, "skip");
+    skip.is_repeatable = true;
+    let builder = got(&rt, builder.directive(skip));
+    let schema = got(&rt, builder.finish());
+    let told = directives(&rt, alloc, schema.registry());
+    let want = "deprecated include oneOf skip repeatable specifiedBy ";
+    same(&rt, told.as_str(), want, "the directives");
+}
+
+#[test]
+fn a_schema_tells_about_itself(rt: HostRuntime) {
+    let schema = got(&rt, begun(&rt, rt.alloc()).finish());
+    let registry = schema.into_registry();
+    assert!(rt; registry.has_type("__Schema"));
+    assert_eq!(rt; registry.types().len(), 14);
 }
 
 #[test]
 fn a_schema_may_tell_nothing_about_itself(rt: HostRuntime) {
-    let alloc = rt.alloc();
-    let query = Type::from(object(&rt, alloc, "Query", &[]));
-    let builder = Schema::build(alloc, "Query", None, None).expect(&rt, "memory");
-    let builder = builder.register(query).expect(&rt, "a new type");
-    let schema = builder
-        .disable_introspection()
-        .finish()
-        .expect(&rt, "no rule is broken");
-    let registry = schema.into_registry();
+    let builder = begun(&rt, rt.alloc()).disable_introspection();
+    let registry = got(&rt, builder.finish()).into_registry();
     assert_eq!(rt; registry.types().len(), 6);
     assert!(rt; registry.introspection_mode() == IntrospectionMode::Disabled);
+}
+
+fn field(rt: &impl Abort, alloc: Global) -> Field {
+    let ty = got(rt, TypeRef::named(alloc, "Int"));
+    got(rt, Field::new(alloc, "a", ty))
+}
+
+#[test]
+fn an_object_takes_a_field_once(rt: HostRuntime) {
+    let alloc = rt.alloc();
+    let object = got(&rt, Object::new(alloc, "O"));
+    let object = got(&rt, object.field(field(&rt, alloc)));
+    let again = object.field(field(&rt, alloc));
+    let want = "Err(AlreadyExists(\"a\"))";
+    same(
+        &rt,
+        debugged(&rt, alloc, &again.map(|_| ())).as_str(),
+        want,
+        "a",
+    );
+}
+
+#[test]
+fn a_type_is_registered_once(rt: HostRuntime) {
+    let mut registry = Registry::new(rt.alloc());
+    let ty = Type::from(got(&rt, Scalar::new(rt.alloc(), "S")));
+    got(&rt, ty.register(&mut registry));
+    let again = ty.register(&mut registry);
+    let want = "Err(AlreadyExists { name: \"S\" })";
+    same(&rt, debugged(&rt, rt.alloc(), &again).as_str(), want, "S");
 }

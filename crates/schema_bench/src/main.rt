@@ -2,9 +2,12 @@
 //! registry then has. `bench/run.py` times it.
 #![tactic(auto)]
 
-use gql_dynamic::{Field, Interface, InterfaceField, Object, OutOfMemory, Type};
-use gql_schema::{Schema, SchemaBuilder};
-use gql_value::TypeRef;
+use gql_check::{Schema, SchemaBuilder};
+use gql_dynamic::{
+    Field, InputObject, InputValue, Interface, InterfaceField, Object, OutOfMemory, SchemaError,
+    Type,
+};
+use gql_text_values::TypeRef;
 use std::alloc::Global;
 use std::env;
 use std::process::ExitCode;
@@ -18,6 +21,12 @@ enum Shape {
     Implementers,
     /// Fields of one object, which implements an interface of as many fields.
     Fields,
+    /// Input objects that each need the next one.
+    Chain,
+    /// Input objects that each need the next one, and the last one needs the first.
+    Ring,
+    /// Input objects that each need the next one, and the last one needs itself.
+    Loop,
 }
 
 /// The shape and the size that the words name.
@@ -29,14 +38,17 @@ fn asked(rt: &HostRuntime) -> Option<(Shape, u32)> {
         "types" => Shape::Types,
         "implementers" => Shape::Implementers,
         "fields" => Shape::Fields,
+        "chain" => Shape::Chain,
+        "ring" => Shape::Ring,
+        "loop" => Shape::Loop,
         _ => return None,
     };
     Some((shape, count.parse::<u32>().ok()?))
 }
 
-/// A name with a number behind it.
-fn numbered(alloc: Global, front: &str, number: u32) -> Result<String, OutOfMemory> {
-    Ok(format!(in alloc; "{}{}", front, number)?)
+/// A name that ends in a number.
+fn numbered(alloc: Global, name: &str, number: u32) -> Result<String, OutOfMemory> {
+    Ok(format!(in alloc; "{}{}", name, number)?)
 }
 
 /// An object of one field.
@@ -76,10 +88,40 @@ fn wide_object(alloc: Global, count: u32) -> Option<Object> {
     Some(object)
 }
 
-/// How many types the finished schema has.
+/// An input object of one field, which needs another one where a number is given.
+fn input(alloc: Global, number: u32, needed: Option<u32>) -> Option<InputObject> {
+    let name = numbered(alloc, "A", number).ok()?;
+    let ty = match needed {
+        None => TypeRef::named(alloc, "Int").ok()?,
+        Some(other) => TypeRef::named_nn(alloc, numbered(alloc, "A", other).ok()?.as_str()).ok()?,
+    };
+    let field = InputValue::new(alloc, "a", ty).ok()?;
+    InputObject::new(alloc, name.as_str())
+        .ok()?
+        .field(field)
+        .ok()
+}
+
+/// How many types the finished schema has; none where it is refused.
 fn finished(builder: SchemaBuilder) -> Option<usize> {
-    let schema = builder.finish().ok()?;
-    Some(schema.registry().types().len())
+    match builder.finish() {
+        Ok(schema) => Some(schema.registry().types().len()),
+        Err(SchemaError::OutOfMemory) => None,
+        Err(_) => Some(0),
+    }
+}
+
+/// Input objects that each need the next one, and what the last one needs.
+fn many_inputs(alloc: Global, count: u32, last: Option<u32>) -> Option<usize> {
+    let mut builder = Schema::build(alloc, "T0", None, None).ok()?;
+    builder = builder.register(Type::from(object(alloc, 0)?)).ok()?;
+    for number in 1..count {
+        let next = input(alloc, number - 1, Some(number))?;
+        builder = builder.register(Type::from(next)).ok()?;
+    }
+    let end = input(alloc, count.saturating_sub(1), last)?;
+    builder = builder.register(Type::from(end)).ok()?;
+    finished(builder)
 }
 
 fn many_types(alloc: Global, count: u32) -> Option<usize> {
@@ -117,11 +159,14 @@ fn measured(alloc: Global, shape: Shape, count: u32) -> Option<usize> {
         Shape::Types => many_types(alloc, count),
         Shape::Implementers => many_implementers(alloc, count),
         Shape::Fields => many_fields(alloc, count),
+        Shape::Chain => many_inputs(alloc, count, None),
+        Shape::Ring => many_inputs(alloc, count, Some(0)),
+        Shape::Loop => many_inputs(alloc, count, Some(count.saturating_sub(1))),
     }
 }
 
 /// Writes the number and the end of a line.
-fn told(rt: &HostRuntime, count: usize) -> Option<()> {
+fn write_count(rt: &HostRuntime, count: usize) -> Option<()> {
     let text = format!(in rt.alloc(); "{}\n", count).ok()?;
     rt.stdout().write_all(text.as_bytes()).ok()
 }
@@ -132,7 +177,7 @@ fn main(rt: HostRuntime) -> ExitCode {
     };
     match measured(rt.alloc(), shape, count) {
         None => ExitCode::from(1),
-        Some(types) => match told(&rt, types) {
+        Some(types) => match write_count(&rt, types) {
             None => ExitCode::from(1),
             Some(()) => ExitCode::from(0),
         },

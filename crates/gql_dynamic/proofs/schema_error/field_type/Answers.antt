@@ -1,11 +1,12 @@
-use Rattle.std.proofs.Common.{◌≡◌, IfOk, subst}
-use Rattle.gql_meta.specs.Views.{text_of}
-use Rattle.gql_rules.specs.Faults.{sentence, field_type}
+use Rattle.std.proofs.Common.{subst}
+use Rattle.std.specs.Fmt.{WritesOnOk}
+use Rattle.gql_registry_meta.specs.Views.{text_of}
+use Rattle.gql_check_rules.specs.Faults.{sentence, field_type}
 use Rattle.gql_dynamic.proofs.schema_error.field_type.Goals as goal
 
--- what is joined is the sentence, with each borrowed name for its owner's
+-- what is written is the sentence, with each borrowed name for its owner's
 pub returns : goal.returns
-returns c =
-    subst (λ ty. IfOk c.joined.result (λ text. text_of text ≡ sentence (field_type ty (text_of c.args.field.now) (text_of c.args.interface.now)))) c.as_str-ty.ensures.value
-    (subst (λ field. IfOk c.joined.result (λ text. text_of text ≡ sentence (field_type c.as_str-ty.result.now field (text_of c.args.interface.now)))) c.as_str-field.ensures.value
-    (subst (λ interface. IfOk c.joined.result (λ text. text_of text ≡ sentence (field_type c.as_str-ty.result.now c.as_str-field.result.now interface))) c.as_str-interface.ensures.value c.joined.ensures))
+returns g c =
+    subst (λ ty. WritesOnOk g.W.Write.write_str_gives c.args.f.now c.joined.result (sentence (field_type ty (text_of c.args.field.now) (text_of c.args.interface.now))) c.joined.new.f) c.as_str-ty.ensures.value
+    (subst (λ field. WritesOnOk g.W.Write.write_str_gives c.args.f.now c.joined.result (sentence (field_type c.as_str-ty.result.now field (text_of c.args.interface.now))) c.joined.new.f) c.as_str-field.ensures.value
+    (subst (λ interface. WritesOnOk g.W.Write.write_str_gives c.args.f.now c.joined.result (sentence (field_type c.as_str-ty.result.now c.as_str-field.result.now interface)) c.joined.new.f) c.as_str-interface.ensures.value c.joined.ensures))

@@ -1,7 +1,8 @@
-use Rattle.std.proofs.Common.{◌≡◌, flat_map, take}
-use Rattle.gql_meta.specs.Views.{text_of}
+use Rattle.std.proofs.Common.{flat_map, take}
+use Rattle.std.specs.Fmt.{HasWritten, IsPlainFormatter}
 use Rattle.gql_dynamic.proofs.schema_error.joined.Given as goal
 
--- what is joined so far
+-- what is written so far
 abbrev pub invariant-loop-part : goal.invariant-loop-part
-invariant-loop-part l = text_of l.text ≡ flat_map (λ part. part.now) (take l.part-index l.parts)
+invariant-loop-part g l =
+    IsPlainFormatter l.initial.f → HasWritten g.W.Write.write_str_gives l.initial.f (flat_map (λ part. part.now) (take l.part-index l.parts)) l.f

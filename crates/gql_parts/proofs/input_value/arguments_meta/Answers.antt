@@ -1,11 +1,11 @@
 use Rattle.std.proofs.Common.{rules, ◌≡◌, [], ◌∙◌, sym, ap}
 use Rattle.std.specs.Str.{bytes_eq}
 use Rattle.indexmap.specs.IndexMap.{insert_all}
-use Rattle.gql_meta.specs.Views.{entries_of, input_value_of}
+use Rattle.gql_registry_meta.specs.Views.{entries_of, input_value_of}
 use Rattle.gql_parts.specs.Builders.{input_value_meta}
-use Rattle.gql_parts.specs.Views.{input_value_parts}
-use Rattle.gql_meta.proofs.Entries.{entries_of-then}
-use Rattle.gql_meta.proofs.Distinct.{insert_all-distinct}
+use Rattle.gql_parts.specs.BuilderViews.{input_value_parts}
+use Rattle.gql_registry_meta.proofs.Entries.{entries_of-then}
+use Rattle.gql_registry_meta.proofs.Distinct.{insert_all-distinct}
 use Rattle.gql_parts.proofs.input_value.arguments_meta.Goals as goal
 
 pub returns : goal.returns

@@ -1,9 +1,9 @@
 use Rattle.std.proofs.Common.{◌≡◌, []}
 use Rattle.std.specs.Str.{bytes_eq}
 use Rattle.indexmap.specs.IndexMap.{insert_all}
-use Rattle.gql_meta.specs.Views.{entries_of, input_value_of}
+use Rattle.gql_registry_meta.specs.Views.{entries_of, input_value_of}
 use Rattle.gql_parts.specs.Builders.{input_value_meta}
-use Rattle.gql_parts.specs.Views.{input_value_parts}
+use Rattle.gql_parts.specs.BuilderViews.{input_value_parts}
 use Rattle.gql_parts.proofs.input_value.arguments_meta.Given as goal
 
 -- the arguments so far with those that are left, each in turn, are those of all

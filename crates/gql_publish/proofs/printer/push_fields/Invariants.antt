@@ -1,5 +1,5 @@
 use Rattle.std.proofs.Common.{◌≡◌, ◌++◌, string_bytes, flat_map}
-use Rattle.gql_meta.specs.Views.{field_of}
+use Rattle.gql_registry_meta.specs.Views.{field_of}
 use Rattle.gql_publish.specs.Spelling.{field_text}
 use Rattle.gql_publish.proofs.printer.push_fields.Given as goal
 

@@ -1,5 +1,5 @@
 use Rattle.std.proofs.Common.{◌≡◌, ◌++◌, string_bytes, flat_map}
-use Rattle.gql_meta.specs.Views.{meta_of}
+use Rattle.gql_registry_meta.specs.Views.{meta_of}
 use Rattle.gql_publish.specs.Spelling.{meta_text}
 use Rattle.gql_publish.proofs.printer.push_types.Given as goal
 

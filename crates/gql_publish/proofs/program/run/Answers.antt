@@ -1,18 +1,22 @@
-use Rattle.std.proofs.Common.{subst, sym, ℕ, List}
-use Rattle.gql_streams.specs.Writing.{AppendsOrFails}
-use Rattle.gql_publish.specs.Endings.{IsLine}
-use Rattle.gql_publish.specs.Troubles.{trouble_line}
-use Rattle.gql_publish.proofs.Tellings.{told_by}
+use Rattle.std.proofs.Common.{refl, inl}
+use Rattle.std.proofs.KnownBytes.{Appends-nil}
+use Rattle.gql_publish.specs.Endings.{streams, done}
+use Rattle.gql_publish.proofs.Tellings.{ends}
 use Rattle.gql_publish.proofs.program.run.Goals as goal
 
-pub returns-in-Err-clause-line : goal.returns-in-Err-clause-line
-returns-in-Err-clause-line g c =
-    let left = g.S.Source.left c.args.input.now in
-    let left' = g.S.Source.left c.publish_input.new.input in
-    let line = trouble_line c.in-Err.trouble in
-    let told = told_by _ left left' _ _ _ _ _ _ c.in-Err.trouble c.in-Err.ensures.trouble in (
-      line,
-      subst (λ (status : ℕ). IsLine left left' status line) (sym c.status.ensures) told,
-      subst (λ (l : List ℕ). AppendsOrFails (g.F.Sink.written c.args.faults.now) (g.F.Sink.written c.tell.new.faults) (g.F.Sink.faults c.args.faults.now) (g.F.Sink.faults c.tell.new.faults) l)
-          c.line.ensures c.tell.ensures,
-    )
+pub returns-in-Ok-clause-ends : goal.returns-in-Ok-clause-ends
+returns-in-Ok-clause-ends g c =
+    let published = c.in-Ok.ensures.done in
+    record {
+      ending = done published.1.0;
+      is = refl;
+      holds = (published.0, published.1.1);
+      reports = inl (Appends-nil (g.F.Sink.state c.args.faults.now).written);
+    }
+
+pub returns-in-Err-clause-ends : goal.returns-in-Err-clause-ends
+returns-in-Err-clause-ends g c =
+    ends c.args.words.now
+    (streams (g.S.Source.state c.args.input.now) (g.K.Sink.state c.args.output.now) (g.F.Sink.state c.args.faults.now))
+    (streams (g.S.Source.state c.publish_input.new.input) (g.K.Sink.state c.publish_input.new.output) (g.F.Sink.state c.tell.new.faults))
+    _ _ c.in-Err.trouble c.in-Err.ensures.trouble c.status.ensures c.line.ensures c.tell.ensures

@@ -1,6 +1,6 @@
 use Rattle.std.proofs.Common.{rules, ◌≡◌, ◌++◌, ◌∷◌, [], false, subst, sym, ap, ◌∙◌}
-use Rattle.gql_meta.specs.Views.{text_of, entries_of, field_of}
-use Rattle.gql_meta.specs.Parts.{is_among}
+use Rattle.gql_registry_meta.specs.Views.{text_of, entries_of, field_of}
+use Rattle.gql_registry_meta.specs.Parts.{is_among}
 use Rattle.gql_publish.specs.Names.{keys_in}
 use Rattle.gql_publish.specs.View.{field_entry}
 use Rattle.gql_publish.proofs.Registering.{inserted_new}

@@ -1,6 +1,6 @@
 use Rattle.std.proofs.Common.{◌≡◌, ◌++◌, true, map, drop}
 use Rattle.std.specs.List.{flat_map}
-use Rattle.gql_meta.specs.Views.{entries_of, field_of}
+use Rattle.gql_registry_meta.specs.Views.{entries_of, field_of}
 use Rattle.gql_publish.specs.Names.{are_new, keys_in}
 use Rattle.gql_publish.specs.Plain.{field_names_of}
 use Rattle.gql_publish.specs.View.{field_entry}

@@ -1,6 +1,6 @@
 use Rattle.std.proofs.Common.{◌≡◌, drop}
 use Rattle.gql_publish.specs.Rules.{existence_fault}
-use Rattle.gql_rules.specs.Tests.{first_in}
+use Rattle.gql_check_rules.specs.Tests.{first_in}
 use Rattle.gql_publish.proofs.rules.check_existence.Given as goal
 
 -- those that are left have the first fault of all

@@ -1,9 +1,9 @@
 use Rattle.std.proofs.Common.{ap, ◌∙◌, ◌≡◌}
 use Rattle.std.specs.Str.{bytes_eq}
 use Rattle.indexmap.specs.IndexMap.{insert_entry}
-use Rattle.gql_meta.specs.Views.{field_of, entries_of}
+use Rattle.gql_registry_meta.specs.Views.{field_of, entries_of}
 use Rattle.gql_registry.specs.Additions.{with_field}
-use Rattle.gql_meta.proofs.Entries.{entries_with_insertion}
+use Rattle.gql_registry_meta.proofs.Entries.{entries_with_insertion}
 use Rattle.gql_registry.proofs.additions.add_field.Goals as goal
 
 pub returns-in_ok-insert-in-Object-clause-field : goal.returns-in_ok-insert-in-Object-clause-field

@@ -1,5 +1,5 @@
 use Rattle.std.proofs.Common.{◌≡◌, fold, map}
-use Rattle.gql_meta.specs.Views.{text_of}
+use Rattle.gql_registry_meta.specs.Views.{text_of}
 use Rattle.gql_registry.specs.Registry.{names_of, with_name}
 use Rattle.gql_registry.proofs.lists.add_names.Given as goal
 

@@ -1,9 +1,9 @@
 use Rattle.std.proofs.Common.{ap, ◌∙◌, ◌≡◌, subst}
 use Rattle.std.proofs.lemmas.Result.{on_ok_weaker, on_err_weaker}
-use Rattle.gql_meta.specs.Parts.{at_text}
-use Rattle.gql_meta.specs.Views.{text_of, entries_of}
-use Rattle.gql_registry.specs.Registry.{HasOnce, names_of, listed, with_name}
-use Rattle.gql_meta.proofs.Entries.{written_back, missing_at}
+use Rattle.gql_registry_meta.specs.Parts.{at_text}
+use Rattle.gql_registry_meta.specs.Views.{text_of, entries_of}
+use Rattle.gql_registry.specs.Registry.{HasOnce, names_of, implements_listed, with_name}
+use Rattle.gql_registry_meta.proofs.Entries.{written_back, missing_at}
 use Rattle.gql_registry.proofs.Changes.{written_name, written_list, put_once}
 use Rattle.gql_registry.proofs.lists.add_to_list.Goals as goal
 
@@ -48,5 +48,5 @@ returns-in-None-clause-once c =
     let after = entries_of names_of c.begin_list.new.lists.entries in
     let name : text_of c.in_ok-interface.interface ≡ c.args.interface.now = c.in_ok-interface.ensures.ok in
     on_ok_weaker c.begin_list.result
-    (λ (once : HasOnce (listed c.args.ty.now after) (text_of c.in_ok-interface.interface)). subst (HasOnce (listed c.args.ty.now after)) name once)
+    (λ (once : HasOnce (implements_listed c.args.ty.now after) (text_of c.in_ok-interface.interface)). subst (HasOnce (implements_listed c.args.ty.now after)) name once)
     c.begin_list.ensures.once

@@ -1,9 +1,9 @@
 use Rattle.std.proofs.Common.{ap, ap₂, map, ◌∙◌, ◌≡◌, sym, [], ◌∷◌}
 use Rattle.std.specs.BTreeMap.{insert_entry}
-use Rattle.gql_meta.specs.Parts.{text_cmp}
-use Rattle.gql_meta.specs.Views.{text_of, entries_of}
+use Rattle.gql_registry_meta.specs.Parts.{text_cmp}
+use Rattle.gql_registry_meta.specs.Views.{text_of, entries_of}
 use Rattle.gql_registry.specs.Registry.{names_of, with_name}
-use Rattle.gql_meta.proofs.Entries.{entries_with_entry}
+use Rattle.gql_registry_meta.proofs.Entries.{entries_with_entry}
 use Rattle.gql_registry.proofs.Changes.{begun_list, put_once, with_list-none}
 use Rattle.gql_registry.proofs.lists.begin_list.Goals as goal
 

@@ -1,9 +1,9 @@
 use Rattle.std.proofs.Common.{ap, ◌∙◌, sym, [], map}
 use Rattle.std.specs.Option.{unwrap_or}
-use Rattle.gql_meta.specs.Views.{text_of}
+use Rattle.gql_registry_meta.specs.Views.{text_of}
 use Rattle.gql_registry.specs.Registry.{names_of}
-use Rattle.gql_meta.proofs.Entries.{found_at, missing_at}
-use Rattle.gql_meta.proofs.Alike.{map_alike}
+use Rattle.gql_registry_meta.proofs.Entries.{found_at, missing_at}
+use Rattle.gql_registry_meta.proofs.Alike.{map_alike}
 use Rattle.gql_registry.proofs.lists.names_listed.Goals as goal
 
 pub returns-in_ok-clone-in-Some : goal.returns-in_ok-clone-in-Some

@@ -1,9 +1,9 @@
 use Rattle.std.proofs.Common.{ap, ◌∙◌, sym, refl}
 use Rattle.std.specs.BTreeMap.{insert_entry}
-use Rattle.gql_meta.specs.Parts.{at_text, text_cmp}
-use Rattle.gql_meta.specs.Views.{text_of, entries_of, meta_of}
+use Rattle.gql_registry_meta.specs.Parts.{at_text, text_cmp}
+use Rattle.gql_registry_meta.specs.Views.{text_of, entries_of, meta_of}
 use Rattle.gql_registry.specs.Registry.{names_of, with_list}
-use Rattle.gql_meta.proofs.Entries.{written_back, missing_at, entries_with_entry}
+use Rattle.gql_registry_meta.proofs.Entries.{written_back, missing_at, entries_with_entry}
 use Rattle.gql_registry.proofs.Results.{on_err}
 use Rattle.gql_registry.proofs.Changes.{written_list}
 use Rattle.gql_registry.proofs.lists.put_both.Goals as goal

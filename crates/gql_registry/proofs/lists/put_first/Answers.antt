@@ -2,10 +2,10 @@ use Rattle.std.proofs.Common.{ap, ◌∙◌, ◌≡◌, sym, string_bytes, None}
 use Rattle.std.specs.BTreeMap.{insert_entry}
 use Rattle.std.specs.Map.{remove_entry}
 use Rattle.std.specs.Str.{bytes_eq}
-use Rattle.gql_meta.specs.Parts.{text_cmp, at_text, name_of}
-use Rattle.gql_meta.specs.Views.{text_of, entries_of, meta_of}
+use Rattle.gql_registry_meta.specs.Parts.{text_cmp, at_text, name_of}
+use Rattle.gql_registry_meta.specs.Views.{text_of, entries_of, meta_of}
 use Rattle.gql_registry.specs.Registry.{names_of}
-use Rattle.gql_meta.proofs.Entries.{entries_with_entry, entries_without}
+use Rattle.gql_registry_meta.proofs.Entries.{entries_with_entry, entries_without}
 use Rattle.gql_registry.proofs.Changes.{with_list-none, remove_entry-insert}
 use Rattle.gql_registry.proofs.lists.put_first.Goals as goal
 

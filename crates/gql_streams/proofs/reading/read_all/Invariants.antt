@@ -7,8 +7,8 @@ abbrev pub invariant-loop-turn : goal.invariant-loop-turn
 invariant-loop-turn g l =
     let source = g.S.Source in
     record {
-      given : Consumes (source.left l.fn.input) (source.left l.input) l.bytes.items;
+      given : Consumes (source.state l.fn.input).left (source.state l.input).left l.bytes.items;
       turns : l._turn ≤ length l.bytes.items;
       within : length l.bytes.items ≤ l.fn.limit;
-      later : source.faults l.fn.input ≤ source.faults l.input;
+      later : (source.state l.fn.input).faults ≤ (source.state l.input).faults;
     }

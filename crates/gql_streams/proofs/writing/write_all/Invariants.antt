@@ -8,8 +8,8 @@ invariant-loop-done g l =
     let sink = g.K.Sink in
     record {
       within : l.done ≤ length l.text;
-      given : Appends (sink.written l.fn.output) (sink.written l.output) (take l.done l.text);
-      later : sink.faults l.fn.output ≤ sink.faults l.output;
+      given : Appends (sink.state l.fn.output).written (sink.state l.output).written (take l.done l.text);
+      later : (sink.state l.fn.output).faults ≤ (sink.state l.output).faults;
     }
 
 abbrev pub decreases-loop-done : goal.decreases-loop-done

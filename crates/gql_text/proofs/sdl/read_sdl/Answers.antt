@@ -1,10 +1,5 @@
-use Rattle.std.proofs.Common.{◌≡◌, refl}
-use Rattle.gql_text.specs.Verdict.{NotUtf8}
-use Rattle.gql_text.proofs.Judgements.{one_place}
+use Rattle.std.proofs.Common.{sym, ◌∙◌}
 use Rattle.gql_text.proofs.sdl.read_sdl.Goals as goal
 
-pub returns-in-Err-clause-fault : goal.returns-in-Err-clause-fault
-returns-in-Err-clause-fault c n = rw c.valid_up_to.ensures (NotUtf8 _ c.in-Err.ensures.cases.0 c.in-Err.ensures.cases.1 refl)
-
-pub returns-in-Err-clause-not_utf8 : goal.returns-in-Err-clause-not_utf8
-returns-in-Err-clause-not_utf8 c at u v n = rw c.valid_up_to.ensures (one_place c.args.bytes.now _ at c.in-Err.ensures.cases.1 v)
+pub returns-in_ok-to_document-in-Ok-clause-only : goal.returns-in_ok-to_document-in-Ok-clause-only
+returns-in_ok-to_document-in-Ok-clause-only c d s = c.in-Ok.ensures.only d s ∙ sym c.in_ok-to_document-in-Ok.ensures

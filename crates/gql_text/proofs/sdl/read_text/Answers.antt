@@ -1,4 +1,3 @@
-use Rattle.std.proofs.Common.{◌≡◌}
 use Rattle.gql_text.proofs.Judgements.{only_document, owner_fault, owner_only, no_stop}
 use Rattle.gql_text.proofs.sdl.read_text.Goals as goal
 
@@ -18,4 +17,4 @@ pub returns-in-Err-clause-only : goal.returns-in-Err-clause-only
 returns-in-Err-clause-only c d s = c.in-Err.ensures.only s.tree s.spelled
 
 pub returns-in-Err-clause-owner : goal.returns-in-Err-clause-owner
-returns-in-Err-clause-owner c tree s n m = absurd (m (c.in-Err.ensures.only tree s))
+returns-in-Err-clause-owner c tree e s o m = absurd (m (c.in-Err.ensures.only tree s))

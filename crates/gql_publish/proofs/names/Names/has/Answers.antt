@@ -1,6 +1,6 @@
 use Rattle.std.proofs.Common.{◌∙◌, ap}
-use Rattle.gql_meta.specs.Parts.{is_among}
-use Rattle.gql_publish.proofs.NameLists.{texts_have}
+use Rattle.gql_registry_meta.specs.Parts.{is_among}
+use Rattle.gql_registry_meta.proofs.Borrowed.{texts_have}
 use Rattle.gql_publish.proofs.names.Names.has.Goals as goal
 
 pub returns : goal.returns

@@ -1,6 +1,6 @@
 use Rattle.std.proofs.Common.{ap, ◌∙◌, ◌≡◌}
 use Rattle.std.proofs.lemmas.Result.{on_ok_weaker}
-use Rattle.gql_meta.specs.Views.{meta_of, field_of, directive_of}
+use Rattle.gql_registry_meta.specs.Views.{meta_of, field_of, directive_of}
 use Rattle.gql_registry.specs.Registry.{registry_of}
 use Rattle.gql_registry.specs.Additions.{made, directive, missing_type, query_field}
 use Rattle.gql_registry.proofs.registry.Registry.add.Goals as goal

@@ -1,8 +1,8 @@
 use Rattle.std.proofs.Common.{ap, ◌∙◌, ◌≡◌, sym}
 use Rattle.std.specs.Option.{option_map_or}
 use Rattle.std.proofs.lemmas.Result.{on_ok_weaker}
-use Rattle.gql_meta.specs.Parts.{at_text, name_of}
-use Rattle.gql_meta.specs.Views.{meta_of}
+use Rattle.gql_registry_meta.specs.Parts.{at_text, name_of}
+use Rattle.gql_registry_meta.specs.Views.{meta_of}
 use Rattle.gql_registry.specs.Registry.{registry_of, types_of, with_type}
 use Rattle.gql_registry.specs.Additions.{with_missing}
 use Rattle.gql_registry.proofs.Steps.{kept, new}

@@ -1,8 +1,9 @@
 use Rattle.std.proofs.Common.{ap, ◌∙◌, ◌≡◌, sym}
 use Rattle.std.proofs.lemmas.Result.{on_ok_weaker, on_err_weaker}
-use Rattle.gql_meta.specs.Views.{text_of, meta_of, entries_of}
+use Rattle.gql_registry_meta.specs.Views.{text_of, meta_of, entries_of}
 use Rattle.gql_registry.specs.Registry.{registry_of, types_of, with_possible, with_possible_type}
-use Rattle.gql_meta.proofs.Entries.{written_back}
+use Rattle.gql_registry_meta.proofs.Entries.{written_back}
+use Rattle.gql_registry.proofs.OwnNames.{types_written}
 use Rattle.gql_registry.proofs.Steps.{possible_written, no_type}
 use Rattle.gql_registry.proofs.registry.Registry.add_possible_type.Goals as goal
 
@@ -40,3 +41,9 @@ returns-in-None-clause-contents g c =
     (ap (λ m. entries_of meta_of m.entries) c.get_mut.follows.holds-at-none
     ∙ sym (no_type name c.args.self.now.types.entries (text_of c.in_ok-object.object) c.in-None.ensures.value)
     ∙ ap (with_possible_type name types) c.in_ok-object.ensures.ok)
+
+pub invariant_of-self-clause-own_types : goal.invariant_of-self-clause-own_types
+invariant_of-self-clause-own_types g c =
+    let w = c.add_possible.new.ty in
+    types_written c.args.interface.now c.args.self.now.types.entries (c.get_mut.follows.lender w).entries c.in-Some.ty.now w c.in-Some.ensures.value (c.get_mut.follows.holds w).0
+    c.add_possible.ensures.name c.args.self.now.own_types

@@ -1,9 +1,10 @@
 use Rattle.std.proofs.Common.{ap, ◌∙◌, ◌≡◌, sym}
 use Rattle.std.proofs.lemmas.Result.{on_ok_weaker, on_err_weaker}
-use Rattle.gql_meta.specs.Views.{meta_of, field_of, entries_of}
+use Rattle.gql_registry_meta.specs.Views.{meta_of, field_of, entries_of}
 use Rattle.gql_registry.specs.Registry.{registry_of, types_of}
 use Rattle.gql_registry.specs.Additions.{with_query_field, object_with}
-use Rattle.gql_meta.proofs.Entries.{written_back}
+use Rattle.gql_registry_meta.proofs.Entries.{written_back}
+use Rattle.gql_registry.proofs.OwnNames.{types_written}
 use Rattle.gql_registry.proofs.Steps.{field_written, no_query}
 use Rattle.gql_registry.proofs.registry.Registry.add_query_field.Goals as goal
 
@@ -41,3 +42,9 @@ returns-in-None-clause-made g c =
     (ap (λ m. entries_of meta_of m.entries) c.get_mut.follows.holds-at-none
     ∙ sym (no_query c.as_str.result.now c.args.self.now.types.entries field c.in-None.ensures.value)
     ∙ ap (λ t. with_query_field t types field) c.as_str.ensures.value)
+
+pub invariant_of-self-clause-own_types : goal.invariant_of-self-clause-own_types
+invariant_of-self-clause-own_types g c =
+    let w = c.add_field.new.ty in
+    types_written c.as_str.result.now c.args.self.now.types.entries (c.get_mut.follows.lender w).entries c.in-Some.ty.now w c.in-Some.ensures.value (c.get_mut.follows.holds w).0
+    c.add_field.ensures.name c.args.self.now.own_types

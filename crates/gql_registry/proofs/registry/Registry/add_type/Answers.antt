@@ -1,9 +1,10 @@
 use Rattle.std.proofs.Common.{ap, ap₂, ◌∙◌, ◌≡◌, sym, length, true, false, fold}
 use Rattle.std.proofs.lemmas.Result.{on_ok_weaker}
-use Rattle.gql_meta.specs.Parts.{name_of}
-use Rattle.gql_meta.specs.Views.{entries_of, meta_of}
-use Rattle.gql_registry.specs.Registry.{Contents, registry_of, types_of, names_of, listed, with_type, with_name, with_list, with_all_implements}
+use Rattle.gql_registry_meta.specs.Parts.{name_of}
+use Rattle.gql_registry_meta.specs.Views.{entries_of, meta_of}
+use Rattle.gql_registry.specs.Registry.{Contents, registry_of, types_of, names_of, implements_listed, with_type, with_name, with_list, with_all_implements}
 use Rattle.gql_registry.proofs.Results.{on_ok_both, on_err_both}
+use Rattle.gql_registry.proofs.OwnNames.{types_after}
 use Rattle.gql_registry.proofs.Changes.{all_names, no_names, one_type_more}
 use Rattle.gql_registry.proofs.registry.Registry.add_type.Goals as goal
 
@@ -27,8 +28,8 @@ returns-clause-contents g c =
     let f : c.is_empty.result ≡ false = c.if-is_empty.false in
     cc in
     let named : c.name.result.now ≡ type = c.name.ensures in
-    let made : names_of c.in_ok-listing.listing.names ≡ fold with_name (listed type lists) (names_of c.args.interfaces.now) =
-    c.in_ok-listing.ensures.names ∙ ap (λ t. fold with_name (listed t lists) (names_of c.args.interfaces.now)) named in
+    let made : names_of c.in_ok-listing.listing.names ≡ fold with_name (implements_listed type lists) (names_of c.args.interfaces.now) =
+    c.in_ok-listing.ensures.names ∙ ap (λ t. fold with_name (implements_listed t lists) (names_of c.args.interfaces.now)) named in
     on_ok_both c.put_both.result
     (λ (a : entries_of meta_of c.put_both.new.types.entries ≡ with_type before.types (meta_of c.args.ty))
     (b : entries_of names_of c.put_both.new.lists.entries ≡ with_list type lists (names_of c.in_ok-listing.listing.names)).
@@ -59,3 +60,8 @@ returns-clause-one_more g c =
     let types = types_of c.args.self.now in
     let after = entries_of meta_of c.put_both.new.types.entries in
     on_ok_weaker c.put_both.result (λ (e : after ≡ with_type types (meta_of c.args.ty)). one_type_more types after (meta_of c.args.ty) e) c.put_both.ensures.types
+
+pub invariant_of-self-clause-own_types : goal.invariant_of-self-clause-own_types
+invariant_of-self-clause-own_types g c =
+    types_after c.put_both.result (types_of c.args.self.now) (entries_of meta_of c.put_both.new.types.entries) (meta_of c.args.ty)
+    c.put_both.ensures.types c.put_both.ensures.types_stay c.args.self.now.own_types

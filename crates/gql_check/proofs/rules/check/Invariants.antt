@@ -1,4 +1,0 @@
-use Rattle.gql_check.proofs.rules.check.Given as goal
-
-abbrev pub ghosts-check_uncounted : goal.ghosts-check_uncounted
-ghosts-check_uncounted g a = record { name = a.blank.name; parts = a.blank.parts }

@@ -1,0 +1,5 @@
+pub mod Entries
+pub mod FirstCycle
+pub mod InterfaceFields
+pub mod Numbering
+pub mod SameKinds

@@ -1,0 +1,7 @@
+use Rattle.gql_check_rules.specs.Rules.{object_fault}
+use Rattle.gql_check_code.specs.CheckedViews.{schema_of, checked_definitions, HasFirstOf}
+use Rattle.gql_check_code.proofs.objects.check_objects.Given as goal
+
+-- what is left has the first fault of all
+abbrev pub invariant-loop-name : goal.invariant-loop-name
+invariant-loop-name g l = HasFirstOf (object_fault (schema_of l.types)) (checked_definitions l.name-iterator) (checked_definitions l.initial.name-iterator)

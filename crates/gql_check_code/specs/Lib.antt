@@ -1,0 +1,4 @@
+pub mod Definitions
+pub mod CheckedViews
+pub mod Counts
+pub mod Cycles

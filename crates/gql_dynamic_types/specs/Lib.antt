@@ -1,0 +1,11 @@
+pub use Rattle.gql_text_values.specs.TypeRefs
+pub use Rattle.gql_text_values.specs.ConstValues
+pub use Rattle.gql_registry_meta.specs.Parts
+pub use Rattle.gql_registry_meta.specs.Views
+pub use Rattle.gql_registry_meta.specs.Caching
+pub use Rattle.gql_registry_meta.specs.Invocations
+pub use Rattle.gql_registry_meta.specs.Validators
+pub use Rattle.gql_parts.specs.Builders
+pub use Rattle.gql_parts.specs.BuilderViews
+pub mod Types
+pub mod TypeViews

@@ -1,0 +1,222 @@
+//! Objects: section 3.6 of the GraphQL specification, October 2021.
+
+ghost use Rattle.std.specs.Prelude.{◌≡◌, ◌++◌, ◌∷◌, [], Some, true, false, not, IfOk, IfErr, OnOk, map};
+ghost use Rattle.std.specs.Map.{keys_of};
+ghost use Rattle.gql_registry_meta.specs.Views.{text_of, meta_of, names_of};
+ghost use Rattle.gql_parts.specs.BuilderViews.{field_parts, directive_use, fields_built};
+ghost use Rattle.gql_registry_meta.specs.Parts.{is_among, is_empty};
+ghost use Rattle.gql_dynamic_types.specs.Types.{with_last, new_object, object_meta, IsNew};
+ghost use Rattle.gql_dynamic_types.specs.TypeViews.{ReportsRepeated, object_parts};
+
+use crate::error::BuildError;
+use crate::keys::copied_keys;
+use crate::members::{fields_meta, put_new, put_new_name};
+use gql_parts::{Directive, Field};
+use gql_registry_meta::{
+    CacheControl, MetaDirectiveInvocation, MetaType, OutOfMemory, copy_invocations, copy_optional,
+    copy_texts, owned_texts,
+};
+use indexmap::{IndexMap, IndexSet};
+use std::alloc::Global;
+
+/// An object.
+#[derive(Debug, Drop)]
+pub struct Object {
+    alloc: Global,
+    name: String,
+    description: Option<String>,
+    fields: IndexMap<String, Field>,
+    implements: IndexSet<String>,
+    keys: Vec<String>,
+    extends: bool,
+    shareable: bool,
+    resolvable: bool,
+    inaccessible: bool,
+    interface_object: bool,
+    tags: Vec<String>,
+    directives: Vec<MetaDirectiveInvocation>,
+}
+
+impl Object {
+    /// The object of that name, of which no more is said.
+    pub fn new(alloc: Global, name: &str) -> Result<Object, OutOfMemory>
+        ensures { IfOk result (λ object. object_parts object ≡ new_object name.now) }
+    {
+        Ok(Object {
+            alloc,
+            name: String::from_str(alloc, name)?,
+            description: None,
+            fields: IndexMap::new(alloc),
+            implements: IndexSet::new(alloc),
+            keys: Vec::new(alloc),
+            extends: false,
+            shareable: false,
+            resolvable: true,
+            inaccessible: false,
+            interface_object: false,
+            tags: Vec::new(alloc),
+            directives: Vec::new(alloc),
+        })
+    }
+
+    /// Gives it a field, after those that it has.
+    ///
+    /// Answers `AlreadyExists` where it has a field of that name.
+    pub fn field(mut self, field: Field) -> Result<Object, BuildError>
+        ensures added { IfOk result (λ object. object_parts object ≡ record (object_parts self) {
+          fields = with_last (object_parts self).fields (field_parts field).name (field_parts field);
+        }) }
+        ensures new { OnOk result (IsNew (field_parts field).name (object_parts self).fields) }
+        ensures repeated { IfErr result (
+            ReportsRepeated (field_parts field).name (keys_of (object_parts self).fields)) }
+    {
+        let name = String::from_str(self.alloc, field.name())?;
+        put_new(&mut self.fields, name, field)?;
+        Ok(self)
+    }
+
+    /// Notes that it implements an interface, after those that it implements.
+    ///
+    /// Answers `AlreadyExists` where it implements that interface already.
+    pub fn implement(mut self, interface: &str) -> Result<Object, BuildError>
+        ensures added { IfOk result (λ object. object_parts object
+            ≡ record (object_parts self) { implements = (object_parts self).implements ++ interface.now ∷ [] }) }
+        ensures new { OnOk result (is_among interface.now (object_parts self).implements ≡ false) }
+        ensures repeated { IfErr result (
+            ReportsRepeated interface.now (object_parts self).implements) }
+    {
+        let name = String::from_str(self.alloc, interface)?;
+        put_new_name(&mut self.implements, name)?;
+        Ok(self)
+    }
+
+    /// Adds a key, for federation: the fields by which it is found, as a selection set without its braces.
+    pub fn key(mut self, fields: &str) -> Result<Object, OutOfMemory>
+        ensures { IfOk result (λ object. object_parts object
+            ≡ record (object_parts self) { keys = (object_parts self).keys ++ fields.now ∷ [] }) }
+    {
+        self.keys.push(String::from_str(self.alloc, fields)?)?;
+        Ok(self)
+    }
+
+    /// Adds a key by which this service cannot find it, for federation.
+    pub fn unresolvable(mut self, fields: &str) -> Result<Object, OutOfMemory>
+        ensures { IfOk result (λ object. object_parts object
+            ≡ record (object_parts self) { keys = (object_parts self).keys ++ fields.now ∷ []; resolvable = false }) }
+    {
+        self.keys.push(String::from_str(self.alloc, fields)?)?;
+        self.resolvable = false;
+        Ok(self)
+    }
+
+    /// Describes it. The last call counts.
+    pub fn description(mut self, text: &str) -> Result<Object, OutOfMemory>
+        ensures { IfOk result (λ object. object_parts object
+            ≡ record (object_parts self) { description = Some text.now }) }
+    {
+        self.description = Some(String::from_str(self.alloc, text)?);
+        Ok(self)
+    }
+
+    /// Marks it as an extension of a type of another service, for federation.
+    pub fn extends(mut self) -> Object
+        ensures { object_parts result ≡ record (object_parts self) { extends = true } }
+    {
+        self.extends = true;
+        self
+    }
+
+    /// Marks it as shareable, for federation.
+    pub fn shareable(mut self) -> Object
+        ensures { object_parts result ≡ record (object_parts self) { shareable = true } }
+    {
+        self.shareable = true;
+        self
+    }
+
+    /// Marks it as inaccessible, for federation.
+    pub fn inaccessible(mut self) -> Object
+        ensures { object_parts result ≡ record (object_parts self) { inaccessible = true } }
+    {
+        self.inaccessible = true;
+        self
+    }
+
+    /// Marks it as standing for an interface of another service, for federation.
+    pub fn interface_object(mut self) -> Object
+        ensures { object_parts result ≡ record (object_parts self) { interface_object = true } }
+    {
+        self.interface_object = true;
+        self
+    }
+
+    /// Tags it, for federation. The last call counts.
+    pub fn tags(mut self, tags: &[String]) -> Result<Object, OutOfMemory>
+        ensures { IfOk result (λ object. object_parts object
+            ≡ record (object_parts self) { tags = map text_of tags.now }) }
+    {
+        self.tags = owned_texts(self.alloc, tags)?;
+        Ok(self)
+    }
+
+    /// Uses a directive on it, after those that are used on it.
+    pub fn directive(mut self, directive: Directive) -> Result<Object, OutOfMemory>
+        ensures { IfOk result (λ object. object_parts object
+            ≡ record (object_parts self) { directives = (object_parts self).directives ++ directive_use directive ∷ [] }) }
+    {
+        let invocation = MetaDirectiveInvocation::from(directive);
+        self.directives.push(invocation)?;
+        Ok(self)
+    }
+
+    /// The name of the object.
+    pub fn type_name(&self) -> &str
+        ensures { result.now ≡ (object_parts self.now).name }
+    {
+        self.name.as_str()
+    }
+
+    /// Its fields, each under its name and in the order in which they came.
+    pub fn fields(&self) -> &IndexMap<String, Field>
+        ensures { fields_built result.now ≡ (object_parts self.now).fields }
+    {
+        &self.fields
+    }
+
+    /// The names of the interfaces that it implements, in the order in which they came.
+    pub fn implements(&self) -> &IndexSet<String>
+        ensures { names_of result.now ≡ (object_parts self.now).implements }
+    {
+        &self.implements
+    }
+
+    /// Whether it has a key.
+    pub fn is_entity(&self) -> bool
+        ensures { result ≡ not (is_empty (object_parts self.now).keys) }
+    {
+        !self.keys.is_empty()
+    }
+
+    /// The type that is registered.
+    pub fn meta(&self, alloc: Global) -> Result<MetaType, OutOfMemory>
+        ensures { IfOk result (λ ty. meta_of ty ≡ object_meta (object_parts self.now)) }
+    {
+        Ok(MetaType::Object {
+            name: String::from_str(alloc, self.name.as_str())?,
+            description: copy_optional(&self.description)?,
+            fields: fields_meta(alloc, &self.fields)?,
+            cache_control: CacheControl::default(),
+            extends: self.extends,
+            shareable: self.shareable,
+            resolvable: self.resolvable,
+            keys: copied_keys(&self.keys)?,
+            visible: None,
+            inaccessible: self.inaccessible,
+            interface_object: self.interface_object,
+            tags: copy_texts(&self.tags)?,
+            is_subscription: false,
+            directive_invocations: copy_invocations(&self.directives)?,
+            requires_scopes: Vec::new(alloc),
+        })
+    }
+}

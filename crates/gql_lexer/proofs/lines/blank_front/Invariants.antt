@@ -1,9 +1,0 @@
-use Rattle.std.proofs.Common.{◌≡◌, ◌≤◌, ◌-◌, length, map, drop}
-use Rattle.gql_lexer.specs.Lines.{trim_front}
-use Rattle.gql_lexer.proofs.lines.blank_front.Given as goal
-
-abbrev pub invariant-loop-at : goal.invariant-loop-at
-invariant-loop-at l = (l.at ≤ length l.lines) × (trim_front (map (λ r. r.now) (drop l.at l.lines)) ≡ trim_front (map (λ r. r.now) l.lines))
-
-abbrev pub decreases-loop-at : goal.decreases-loop-at
-decreases-loop-at l = length l.lines - l.at

@@ -1,6 +1,0 @@
-use Rattle.std.proofs.Common.{◌≡◌, ◌++◌, map, take}
-use Rattle.gql_lexer.specs.Lines.{joined}
-use Rattle.gql_lexer.proofs.lines.push_joined.Given as goal
-
-abbrev pub invariant-loop-line : goal.invariant-loop-line
-invariant-loop-line l = l.out.items ≡ l.fn.out.items ++ joined (map (λ r. r.now) (take l.line-index l.lines))

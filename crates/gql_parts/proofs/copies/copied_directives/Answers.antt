@@ -1,6 +1,0 @@
-use Rattle.gql_meta.specs.Views.{invocation_of}
-use Rattle.gql_meta.proofs.Alike.{map_alike}
-use Rattle.gql_parts.proofs.copies.copied_directives.Goals as goal
-
-pub returns : goal.returns
-returns c = map_alike invocation_of _ _ c.in_ok-from_clones.ensures.items

@@ -1,0 +1,7 @@
+use Rattle.std.proofs.Common.{◌≡◌, drop}
+use Rattle.gql_publish.specs.Plain.{root_query_name}
+use Rattle.gql_publish.proofs.publishing.root_query_name.Given as goal
+
+-- the definitions that are left have the query root of all
+abbrev pub invariant-loop-definition : goal.invariant-loop-definition
+invariant-loop-definition l = root_query_name (drop l.definition-index l.definitions) ≡ root_query_name l.definitions

@@ -1,0 +1,9 @@
+pub mod Alike
+pub mod Names
+pub mod Borrowed
+pub mod Empty
+pub mod Entries
+pub mod Distinct
+pub mod Merging
+pub mod Levels
+pub mod Printed

@@ -1,0 +1,6 @@
+use Rattle.gql_registry_meta.proofs.Alike.{map_alike}
+use Rattle.gql_registry_meta.specs.Views.{text_of}
+use Rattle.gql_registry_meta.proofs.copies.copy_names.Goals as goal
+
+pub returns : goal.returns
+returns c = map_alike text_of _ _ c.in_ok-clone.ensures.cases

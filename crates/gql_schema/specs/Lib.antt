@@ -1,5 +1,0 @@
-pub mod Recorded
-pub mod Names
-pub mod Views
-pub mod Implementers
-pub mod Builders

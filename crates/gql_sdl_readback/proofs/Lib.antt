@@ -1,0 +1,12 @@
+pub mod Texts
+pub mod Says
+pub mod Keeps
+pub mod Bytes
+pub mod Types
+pub mod Whole
+pub mod Lists
+pub mod Strings
+pub mod Blocks
+pub mod Numbers
+pub mod Sound
+pub mod EnumNames

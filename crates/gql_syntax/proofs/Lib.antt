@@ -1,5 +1,0 @@
-pub mod TokenSorts
-pub mod Loops
-pub mod StringTexts
-pub mod Places
-pub mod Clauses

@@ -1,0 +1,15 @@
+pub mod Choices
+pub mod Strings
+pub mod Runs
+pub mod Numbers
+pub mod Bodies
+pub mod Pieces
+pub mod Ends
+pub mod Lists
+pub mod Blocks
+pub mod Values
+pub mod Utf8
+pub mod Quotes
+pub mod Numerals
+pub mod Names
+pub mod Left

@@ -1,0 +1,10 @@
+pub mod Bytes
+pub mod Forms
+pub mod Tokens
+pub mod Scan
+pub mod Cut
+pub mod Values
+pub mod Lines
+pub mod Quoting
+pub mod Whole
+pub mod Left

@@ -1,0 +1,9 @@
+pub mod Rows
+pub mod TokenSorts
+pub mod Loops
+pub mod Places
+pub mod Lawful
+pub mod DepthLawful
+pub mod GrammarLawful
+pub mod Clauses
+pub mod Cuts

@@ -1,6 +1,0 @@
-use Rattle.gql_meta.specs.Views.{text_of}
-use Rattle.gql_meta.proofs.Alike.{map_alike}
-use Rattle.gql_types.proofs.copies.copied_names.Goals as goal
-
-pub returns : goal.returns
-returns c = map_alike text_of _ _ c.in_ok-clone.ensures.cases

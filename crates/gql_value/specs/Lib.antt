@@ -1,5 +1,0 @@
-pub mod TypeRefs
-pub mod Shapes
-pub mod SameType
-pub mod ConstValues
-pub mod SameValue
