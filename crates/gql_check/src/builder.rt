@@ -60,6 +60,32 @@ fn no_types(
     })
 }
 
+/// A copy of the name of a type, where none of the types has it.
+fn new_name(alloc: Global, types: &SchemaTypes, ty: &Type) -> Result<String, SchemaError>
+    ensures name { IfOk result (λ name. text_of name ≡ type_name (type_parts ty.now)) }
+    ensures new { OnOk result
+        (IsNewName (type_name (type_parts ty.now)) (schema_parts types.now)) }
+    ensures exists { IfErr result
+        (TellsTaken (type_name (type_parts ty.now)) (schema_parts types.now)) }
+{
+    let name = String::from_str(alloc, ty.name())?;
+    if types.types.contains_key(&name) {
+        return Err(SchemaError::AlreadyExists { name });
+    }
+    Ok(name)
+}
+
+/// Puts a type last, under its name, which is new.
+fn put_last(types: &mut SchemaTypes, name: String, ty: Type) -> Result<(), OutOfMemory>
+    requires name { text_of name ≡ type_name (type_parts ty) }
+    requires new { IsNewName (type_name (type_parts ty)) (schema_parts types.old) }
+    ensures { OnOk result
+        (schema_parts types.new ≡ with_last_type (type_parts ty) (schema_parts types.old)) }
+{
+    types.types.insert(name, ty)?;
+    Ok(())
+}
+
 /// Puts a type last, under its name.
 fn add_type(alloc: Global, types: &mut SchemaTypes, ty: Type) -> Result<(), SchemaError>
     ensures added { OnOk result
@@ -68,11 +94,8 @@ fn add_type(alloc: Global, types: &mut SchemaTypes, ty: Type) -> Result<(), Sche
     ensures exists { IfErr result
         (TellsTaken (type_name (type_parts ty)) (schema_parts types.old)) }
 {
-    let name = String::from_str(alloc, ty.name())?;
-    if types.types.contains_key(&name) {
-        return Err(SchemaError::AlreadyExists { name });
-    }
-    types.types.insert(name, ty)?;
+    let name = new_name(alloc, types, &ty)?;
+    put_last(types, name, ty)?;
     Ok(())
 }
 

@@ -32,25 +32,26 @@ are_new-append earlier (x ∷ xs) ys =
     ∙ sym (and_assoc (not (is_among x earlier)) (are_new (earlier ++ x ∷ []) xs) (are_new (earlier ++ x ∷ xs) ys))
 
 -- one step of the look whether names are new
-new_step : {X : Type 0} (names : X → List Text) (xs : List X) (i : ℕ) (x : X) (earlier : List Text) → i < length xs → x ≡ get_or xs i x
-    → are_new earlier (flat_map names (drop i xs)) ≡ (are_new earlier (names x) && are_new (earlier ++ names x) (flat_map names (drop (i + 1) xs)))
-new_step names xs i x earlier lt e =
-    ap (λ l. are_new earlier (flat_map names l)) (drop_step xs i x lt e) ∙ are_new-append earlier (names x) (flat_map names (drop (i + 1) xs))
+new_step : {X Y : Type 0} (names : Y → List Text) (see : X → Y) (xs : List X) (i : ℕ) (x : X) (earlier : List Text) → i < length xs → x ≡ get_or xs i x
+    → are_new earlier (flat_map names (map see (drop i xs)))
+      ≡ (are_new earlier (names (see x)) && are_new (earlier ++ names (see x)) (flat_map names (map see (drop (i + 1) xs))))
+new_step names see xs i x earlier lt e =
+    ap (λ l. are_new earlier (flat_map names (map see l))) (drop_step xs i x lt e) ∙ are_new-append earlier (names (see x)) (flat_map names (map see (drop (i + 1) xs)))
 
 -- names that are not new, and all names are not distinct
-pub repeated : {X : Type 0} (names : X → List Text) (xs : List X) (i : ℕ) (x : X) (earlier : List Text) (new all : Bool) → i < length xs → x ≡ get_or xs i x
-    → new ≡ are_new earlier (names x) → new ≡ false → are_new earlier (flat_map names (drop i xs)) ≡ all → false ≡ all
-repeated names xs i x earlier new all lt e is old so =
-    sym (ap (λ b. b && are_new (earlier ++ names x) (flat_map names (drop (i + 1) xs))) (sym is ∙ old)) ∙ sym (new_step names xs i x earlier lt e) ∙ so
+pub repeated : {X Y : Type 0} (names : Y → List Text) (see : X → Y) (xs : List X) (i : ℕ) (x : X) (earlier : List Text) (new all : Bool) → i < length xs → x ≡ get_or xs i x
+    → new ≡ are_new earlier (names (see x)) → new ≡ false → are_new earlier (flat_map names (map see (drop i xs))) ≡ all → false ≡ all
+repeated names see xs i x earlier new all lt e is old so =
+    sym (ap (λ b. b && are_new (earlier ++ names (see x)) (flat_map names (map see (drop (i + 1) xs)))) (sym is ∙ old)) ∙ sym (new_step names see xs i x earlier lt e) ∙ so
 
 -- new names, and the look goes on
-pub goes_on : {X : Type 0} (names : X → List Text) (xs : List X) (i : ℕ) (x : X) (earlier later : List Text) (new all : Bool) → i < length xs → x ≡ get_or xs i x
-    → new ≡ are_new earlier (names x) → new ≡ true → later ≡ cond new (earlier ++ names x) earlier → are_new earlier (flat_map names (drop i xs)) ≡ all
-    → are_new later (flat_map names (drop (i + 1) xs)) ≡ all
-goes_on names xs i x earlier later new all lt e is fresh put so =
-    let now : later ≡ earlier ++ names x = put ∙ ap (λ b. cond b (earlier ++ names x) earlier) fresh in
-    ap (λ l. are_new l (flat_map names (drop (i + 1) xs))) now
-    ∙ sym (ap (λ b. b && are_new (earlier ++ names x) (flat_map names (drop (i + 1) xs))) (sym is ∙ fresh)) ∙ sym (new_step names xs i x earlier lt e) ∙ so
+pub goes_on : {X Y : Type 0} (names : Y → List Text) (see : X → Y) (xs : List X) (i : ℕ) (x : X) (earlier later : List Text) (new all : Bool) → i < length xs → x ≡ get_or xs i x
+    → new ≡ are_new earlier (names (see x)) → new ≡ true → later ≡ cond new (earlier ++ names (see x)) earlier → are_new earlier (flat_map names (map see (drop i xs))) ≡ all
+    → are_new later (flat_map names (map see (drop (i + 1) xs))) ≡ all
+goes_on names see xs i x earlier later new all lt e is fresh put so =
+    let now : later ≡ earlier ++ names (see x) = put ∙ ap (λ b. cond b (earlier ++ names (see x)) earlier) fresh in
+    ap (λ l. are_new l (flat_map names (map see (drop (i + 1) xs)))) now
+    ∙ sym (ap (λ b. b && are_new (earlier ++ names (see x)) (flat_map names (map see (drop (i + 1) xs)))) (sym is ∙ fresh)) ∙ sym (new_step names see xs i x earlier lt e) ∙ so
 
 -- ---- one name each
 
@@ -63,9 +64,10 @@ map-singles name [] = refl
 map-singles name (x ∷ xs) = ap (λ l. name x ∷ l) (map-singles name xs)
 
 -- the names that were met, with those that are left, are all
-pub met_all : {X : Type 0} (names : X → List Text) (xs : List X) (i : ℕ) (x : X) (earlier later : List Text) (new : Bool) (all : List Text) → i < length xs → x ≡ get_or xs i x
-    → new ≡ true → later ≡ cond new (earlier ++ names x) earlier → earlier ++ flat_map names (drop i xs) ≡ all → later ++ flat_map names (drop (i + 1) xs) ≡ all
-met_all names xs i x earlier later new all lt e fresh put so =
-    let now : later ≡ earlier ++ names x = put ∙ ap (λ b. cond b (earlier ++ names x) earlier) fresh in
-    ap (λ l. l ++ flat_map names (drop (i + 1) xs)) now ∙ append_assoc earlier (names x) (flat_map names (drop (i + 1) xs))
-    ∙ sym (ap (λ l. earlier ++ flat_map names l) (drop_step xs i x lt e)) ∙ so
+pub met_all : {X Y : Type 0} (names : Y → List Text) (see : X → Y) (xs : List X) (i : ℕ) (x : X) (earlier later : List Text) (new : Bool) (all : List Text) → i < length xs
+    → x ≡ get_or xs i x → new ≡ true → later ≡ cond new (earlier ++ names (see x)) earlier → earlier ++ flat_map names (map see (drop i xs)) ≡ all
+    → later ++ flat_map names (map see (drop (i + 1) xs)) ≡ all
+met_all names see xs i x earlier later new all lt e fresh put so =
+    let now : later ≡ earlier ++ names (see x) = put ∙ ap (λ b. cond b (earlier ++ names (see x)) earlier) fresh in
+    ap (λ l. l ++ flat_map names (map see (drop (i + 1) xs))) now ∙ append_assoc earlier (names (see x)) (flat_map names (map see (drop (i + 1) xs)))
+    ∙ sym (ap (λ l. earlier ++ flat_map names (map see l)) (drop_step xs i x lt e)) ∙ so

@@ -1,9 +1,11 @@
 -- The outcome of the definitions that were read is the verdict on the bytes.
-use Rattle.std.proofs.Common.{rules, ◌≡◌, ◌≢◌, ℕ, Bool, true, false, List, Option, Some, None, Result, Ok, Err, refl, sym, ap, subst, ◌∙◌, cond}
+use Rattle.std.proofs.Common.{rules, ◌≡◌, ◌≢◌, ℕ, Bool, true, false, List, Option, Some, None, Result, Ok, Err, map, refl, sym, ap, subst, ◌∙◌, cond}
 use Rattle.std.specs.Prelude.{IfSome, IsSomeAnd, IfOk, IfErr, string_bytes}
 use Rattle.std.specs.declared.string.String.{String}
 use Rattle.std.specs.declared.alloc.Global.{Global}
 use Rattle.gql_registry_meta.specs.Parts.{Text}
+use Rattle.gql_text_syntax.specs.declared.syntax.WrittenDefinition.{WrittenDefinition}
+use Rattle.gql_text.specs.DocumentOf.{definition_of, document_of}
 use Rattle.gql_text.specs.declared.document.Document.{Document}
 use Rattle.gql_text.specs.declared.document.Definition.{Definition}
 use Rattle.gql_publish.specs.declared.error.PublishError.{PublishError}
@@ -139,6 +141,11 @@ pub one_only : (bytes : List ℕ) (document : Document) (result : Result (String
     → Gives result (outcome document.definitions) → (other : Document) → Spells other bytes → Gives result (outcome other.definitions)
 one_only bytes document result only o other spelled =
     subst (λ (d : Document). Gives result (outcome d.definitions)) (sym (only other spelled)) o
+
+-- what becomes of the definitions of a written tree becomes of the document that it stands for
+pub standing : (tree : List WrittenDefinition) (document : Document) (result : Result (String Global) PublishError) → document_of tree ≡ document
+    → Gives result (outcome (map definition_of tree)) → Gives result (outcome document.definitions)
+standing tree document result e o = subst (λ (d : Document). Gives result (outcome d.definitions)) e o
 
 -- ---- what is published is read again
 

@@ -1,32 +1,34 @@
 //! Whether a document is plain.
+#![tactic(auto, using(crate::proofs::Firsts::all_step, crate::proofs::Firsts::all_map, crate::proofs::Firsts::any_map))]
 
-ghost use Rattle.std.specs.Prelude.{◌≡◌, ◌++◌, if◌then◌else◌, true, false, IfOk, MatchOption};
+ghost use Rattle.std.specs.Prelude.{◌≡◌, true, false, map, IfOk, MatchOption};
 ghost use Rattle.std.specs.List.{list_all, list_any};
+ghost use Rattle.gql_text.specs.DocumentOf.{definition_of, field_def_of, head_of, root_line_of};
 ghost use Rattle.gql_publish.specs.Plain.{type_names_of, type_names, field_names_of, field_names, is_query, is_bare, is_plain_field, is_query_line, is_plain_definition, is_schema_block, has_only_query, are_plain};
 ghost use Rattle.gql_publish.specs.Names.{are_new, are_distinct, with_new};
 
 use crate::names::Names;
-use gql_text::{Definition, FieldDef, OperationType, OutOfMemory, RootLine, TypeHead};
+use gql_text::{Field, Kind, OperationType, OutOfMemory, PlacedName, Root, Use, WrittenDefinition};
 use gql_text_lexer::is_reserved;
 use std::alloc::Global;
 
-fn is_bare(head: &TypeHead) -> bool
-    ensures { result ≡ is_bare head.now }
+fn is_bare(definition: &WrittenDefinition<'_>, key: &PlacedName<'_>, uses: &[Use<'_>]) -> bool
+    ensures { result ≡ is_bare (head_of definition.now.description key.now uses.now) }
 {
-    head.description.is_none() && head.uses.is_empty() && head.name.as_str() != "Upload"
+    definition.description.is_none() && uses.is_empty() && key.name.as_str() != "Upload"
 }
 
-fn is_plain_field(field: &FieldDef) -> bool
-    ensures { result ≡ is_plain_field field.now }
+fn is_plain_field(field: &Field<'_>) -> bool
+    ensures { result ≡ is_plain_field (field_def_of field.now) }
 {
     field.description.is_none()
-        && field.args.is_empty()
-        && field.uses.is_empty()
-        && !is_reserved(field.name.as_str())
+        && field.arguments.as_slice().is_empty()
+        && field.uses.as_slice().is_empty()
+        && !is_reserved(field.key.name.as_str())
 }
 
-fn is_query_line(roots: &[RootLine]) -> bool
-    ensures { result ≡ is_query_line roots.now }
+fn is_query_line(roots: &[Root<'_>]) -> bool
+    ensures { result ≡ is_query_line (map root_line_of roots.now) }
 {
     match roots {
         [root] => matches!(root.kind, OperationType::Query),
@@ -34,29 +36,31 @@ fn is_query_line(roots: &[RootLine]) -> bool
     }
 }
 
-fn is_schema_block(definition: &Definition) -> bool
-    ensures { result ≡ is_schema_block definition.now }
+fn is_schema_block(definition: &WrittenDefinition<'_>) -> bool
+    ensures { result ≡ is_schema_block (definition_of definition.now) }
 {
-    matches!(definition, Definition::SchemaBlock { .. })
+    matches!(definition.kind, Kind::Schema { .. })
 }
 
-fn are_plain_fields(fields: &[FieldDef]) -> bool
-    ensures { result ≡ list_all is_plain_field fields.now }
+fn are_plain_fields(fields: &[Field<'_>]) -> bool
+    ensures { result ≡ list_all is_plain_field (map field_def_of fields.now) }
 {
     fields.iter().all(is_plain_field)
 }
 
-fn add_field<'d>(names: &mut Names<'d>, field: &'d FieldDef) -> Result<bool, OutOfMemory>
-    ensures new { IfOk result (λ new. new ≡ are_new names.old (field_names_of field.now)) }
+fn add_field<'t>(names: &mut Names<'t>, field: &Field<'t>) -> Result<bool, OutOfMemory>
+    ensures new { IfOk result (λ new.
+        new ≡ are_new names.old (field_names_of (field_def_of field.now))) }
     ensures names { IfOk result (λ new.
-        names.new ≡ with_new new names.old (field_names_of field.now)) }
+        names.new ≡ with_new new names.old (field_names_of (field_def_of field.now))) }
 {
-    names.add(field.name.as_str())
+    names.add(field.key.name.as_str())
 }
 
 /// Whether no two of the fields have one name.
-fn have_distinct_names(alloc: Global, fields: &[FieldDef]) -> Result<bool, OutOfMemory>
-    ensures { IfOk result (λ distinct. distinct ≡ are_distinct (field_names fields.now)) }
+fn have_distinct_names(alloc: Global, fields: &[Field<'_>]) -> Result<bool, OutOfMemory>
+    ensures { IfOk result (λ distinct.
+        distinct ≡ are_distinct (field_names (map field_def_of fields.now))) }
 {
     let mut names = Names::new(alloc);
     for field in fields {
@@ -67,29 +71,36 @@ fn have_distinct_names(alloc: Global, fields: &[FieldDef]) -> Result<bool, OutOf
     Ok(true)
 }
 
-fn is_plain_definition(alloc: Global, definition: &Definition) -> Result<bool, OutOfMemory>
-    ensures { IfOk result (λ plain. plain ≡ is_plain_definition definition.now) }
+fn is_plain_definition(
+    alloc: Global,
+    definition: &WrittenDefinition<'_>,
+) -> Result<bool, OutOfMemory>
+    ensures { IfOk result (λ plain.
+        plain ≡ is_plain_definition (definition_of definition.now)) }
 {
-    match definition {
-        Definition::SchemaBlock { roots, .. } => Ok(is_query_line(roots.as_slice())),
-        Definition::Scalar(head) => Ok(is_bare(head)),
-        Definition::Object {
-            head,
-            implements,
-            fields,
-        } => {
-            if !(is_bare(head) && implements.is_empty() && are_plain_fields(fields.as_slice())) {
+    match &definition.kind {
+        Kind::Schema { roots, .. } => Ok(is_query_line(roots.as_slice())),
+        Kind::Scalar { key, uses } => Ok(is_bare(definition, key, uses.as_slice())),
+        Kind::Object(object) => {
+            let fields = object.fields.as_slice();
+            if !is_bare(definition, &object.key, object.uses.as_slice())
+                || object.implements.is_some()
+                || !are_plain_fields(fields)
+            {
                 return Ok(false);
             }
-            have_distinct_names(alloc, fields.as_slice())
+            have_distinct_names(alloc, fields)
         }
         _ => Ok(false),
     }
 }
 
-#[tactic(auto, using(crate::proofs::Firsts::all_step))]
-fn are_plain_definitions(alloc: Global, definitions: &[Definition]) -> Result<bool, OutOfMemory>
-    ensures { IfOk result (λ plain. plain ≡ list_all is_plain_definition definitions.now) }
+fn are_plain_definitions(
+    alloc: Global,
+    definitions: &[WrittenDefinition<'_>],
+) -> Result<bool, OutOfMemory>
+    ensures { IfOk result (λ plain.
+        plain ≡ list_all is_plain_definition (map definition_of definitions.now)) }
 {
     for definition in definitions {
         if !is_plain_definition(alloc, definition)? {
@@ -99,39 +110,44 @@ fn are_plain_definitions(alloc: Global, definitions: &[Definition]) -> Result<bo
     Ok(true)
 }
 
-fn has_schema_block(definitions: &[Definition]) -> bool
-    ensures { result ≡ list_any is_schema_block definitions.now }
+fn has_schema_block(definitions: &[WrittenDefinition<'_>]) -> bool
+    ensures { result ≡ list_any is_schema_block (map definition_of definitions.now) }
 {
     definitions.iter().any(is_schema_block)
 }
 
-fn has_only_query(definitions: &[Definition], names: &Names<'_>) -> bool
-    requires { names.now ≡ type_names definitions.now }
-    ensures { result ≡ has_only_query definitions.now }
+fn has_only_query(definitions: &[WrittenDefinition<'_>], names: &Names<'_>) -> bool
+    requires { names.now ≡ type_names (map definition_of definitions.now) }
+    ensures { result ≡ has_only_query (map definition_of definitions.now) }
 {
     has_schema_block(definitions) || (!names.has("Mutation") && !names.has("Subscription"))
 }
 
-fn add_type<'d>(names: &mut Names<'d>, definition: &'d Definition) -> Result<bool, OutOfMemory>
-    ensures new { IfOk result (λ new. new ≡ are_new names.old (type_names_of definition.now)) }
+fn add_type<'t>(
+    names: &mut Names<'t>,
+    definition: &WrittenDefinition<'t>,
+) -> Result<bool, OutOfMemory>
+    ensures new { IfOk result (λ new.
+        new ≡ are_new names.old (type_names_of (definition_of definition.now))) }
     ensures names { IfOk result (λ new.
-        names.new ≡ with_new new names.old (type_names_of definition.now)) }
+        names.new ≡ with_new new names.old (type_names_of (definition_of definition.now))) }
 {
-    match definition {
-        Definition::Scalar(head) => names.add(head.name.as_str()),
-        Definition::Object { head, .. } => names.add(head.name.as_str()),
+    match &definition.kind {
+        Kind::Scalar { key, .. } => names.add(key.name.as_str()),
+        Kind::Object(object) => names.add(object.key.name.as_str()),
         _ => Ok(true),
     }
 }
 
 /// The names of the types that are defined, where no two have one name.
-fn distinct_type_names<'d>(
+fn distinct_type_names<'t>(
     alloc: Global,
-    definitions: &'d [Definition],
-) -> Result<Option<Names<'d>>, OutOfMemory>
+    definitions: &[WrittenDefinition<'t>],
+) -> Result<Option<Names<'t>>, OutOfMemory>
     ensures { IfOk result (λ found. MatchOption found
-        (are_distinct (type_names definitions.now) ≡ false)
-        (λ names. (are_distinct (type_names definitions.now) ≡ true) × (names ≡ type_names definitions.now))) }
+        (are_distinct (type_names (map definition_of definitions.now)) ≡ false)
+        (λ names. (are_distinct (type_names (map definition_of definitions.now)) ≡ true)
+            × (names ≡ type_names (map definition_of definitions.now)))) }
 {
     let mut names = Names::new(alloc);
     for definition in definitions {
@@ -143,12 +159,14 @@ fn distinct_type_names<'d>(
 }
 
 /// The names of the types of plain definitions, or `None` where the definitions are not plain.
-pub(crate) fn plain_type_names<'d>(
+pub(crate) fn plain_type_names<'t>(
     alloc: Global,
-    definitions: &'d [Definition],
-) -> Result<Option<Names<'d>>, OutOfMemory>
-    ensures { IfOk result (λ found. MatchOption found (are_plain definitions.now ≡ false)
-        (λ names. (are_plain definitions.now ≡ true) × (names ≡ type_names definitions.now))) }
+    definitions: &[WrittenDefinition<'t>],
+) -> Result<Option<Names<'t>>, OutOfMemory>
+    ensures { IfOk result (λ found. MatchOption found
+        (are_plain (map definition_of definitions.now) ≡ false)
+        (λ names. (are_plain (map definition_of definitions.now) ≡ true)
+            × (names ≡ type_names (map definition_of definitions.now)))) }
 {
     if !are_plain_definitions(alloc, definitions)? {
         return Ok(None);

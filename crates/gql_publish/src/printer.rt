@@ -1,4 +1,5 @@
 //! The canonical text of a registry.
+#![tactic(auto, using(crate::proofs::Texts::flat_map_entries, crate::proofs::Texts::body_text_some))]
 
 ghost use Rattle.std.specs.Prelude.{◌≡◌, IfOk, OnOk, string_bytes};
 ghost use Rattle.std.specs.List.{flat_map};
@@ -42,7 +43,6 @@ fn push_field(out: &mut String, field: &MetaField) -> Result<(), AllocError>
     )
 }
 
-#[tactic(auto, using(crate::proofs::Texts::flat_map_entries))]
 fn push_fields(out: &mut String, fields: &IndexMap<String, MetaField>) -> Result<(), AllocError>
     ensures { OnOk result (Grows out.old out.new (fields_text (fields_in fields.now))) }
 {
@@ -52,7 +52,6 @@ fn push_fields(out: &mut String, fields: &IndexMap<String, MetaField>) -> Result
     Ok(())
 }
 
-#[tactic(auto, using(crate::proofs::Texts::body_text_some))]
 fn push_body(out: &mut String, fields: &IndexMap<String, MetaField>) -> Result<(), AllocError>
     ensures { OnOk result (Grows out.old out.new (body_text (fields_in fields.now))) }
 {
@@ -79,7 +78,6 @@ fn push_type(out: &mut String, ty: &MetaType) -> Result<(), AllocError>
     }
 }
 
-#[tactic(auto, using(crate::proofs::Texts::flat_map_entries))]
 fn push_types(out: &mut String, registry: &Registry) -> Result<(), AllocError>
     ensures { OnOk result (Grows out.old out.new (types_text (types_of registry.now))) }
 {

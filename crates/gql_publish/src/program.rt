@@ -156,8 +156,8 @@ pub fn run<S: Source, K: Sink, F: Sink>(
     faults: &mut F,
 ) -> u8
 
-    // Status 0 comes only where the input is a valid document, and the output then got exactly the spelling of its view;
-    // every other ending has its cause. What the streams got is said with each ending.
+    // Status 0 comes only where the input is a valid document, and the output then got exactly the spelling of its view.
+    // Every other ending has its cause. What the streams got is said with each ending.
     ensures ends { EndsWith words.now result
         (streams (S.state input.old) (K.state output.old) (F.state faults.old))
         (streams (S.state input.new) (K.state output.new) (F.state faults.new)) }

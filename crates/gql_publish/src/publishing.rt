@@ -1,7 +1,9 @@
 //! From the bytes of a document to its canonical text.
+#![tactic(auto, using(crate::proofs::Roots::query_step))]
 
-ghost use Rattle.std.specs.Prelude.{◌≡◌, IfOk, IfErr, Ok, Err, string_bytes};
+ghost use Rattle.std.specs.Prelude.{◌≡◌, map, IfOk, IfErr, Ok, Err, string_bytes};
 ghost use Rattle.gql_text.specs.declared.document.Document.{Document};
+ghost use Rattle.gql_text.specs.DocumentOf.{definition_of, root_line_of};
 ghost use Rattle.gql_text.specs.Verdict.{Spells};
 ghost use Rattle.gql_publish.specs.Plain.{first_root, root_query_name};
 ghost use Rattle.gql_publish.specs.View.{view_of};
@@ -17,11 +19,11 @@ use crate::printer::printed;
 use crate::registration::register;
 use crate::rules::check;
 use gql_registry::Registry;
-use gql_text::{Definition, RootLine, read_sdl};
+use gql_text::{Kind, Root, WrittenDefinition, read_document};
 use std::alloc::Global;
 
-fn first_root(roots: &[RootLine]) -> &str
-    ensures { result.now ≡ first_root roots.now }
+fn first_root<'t>(roots: &[Root<'t>]) -> &'t str
+    ensures { result.now ≡ first_root (map root_line_of roots.now) }
 {
     match roots {
         [root, ..] => root.name.as_str(),
@@ -30,20 +32,22 @@ fn first_root(roots: &[RootLine]) -> &str
 }
 
 /// The name of the query root: that of the first schema block, or else `Query`.
-#[tactic(auto, using(crate::proofs::Roots::query_step))]
-fn root_query_name(definitions: &[Definition]) -> &str
-    ensures { result.now ≡ root_query_name definitions.now }
+fn root_query_name<'t>(definitions: &[WrittenDefinition<'t>]) -> &'t str
+    ensures { result.now ≡ root_query_name (map definition_of definitions.now) }
 {
     for definition in definitions {
-        if let Definition::SchemaBlock { roots, .. } = definition {
+        if let Kind::Schema { roots, .. } = &definition.kind {
             return first_root(roots.as_slice());
         }
     }
     "Query"
 }
 
-fn publish_definitions(alloc: Global, definitions: &[Definition]) -> Result<String, PublishError>
-    ensures { Gives result (outcome definitions.now) }
+fn publish_definitions(
+    alloc: Global,
+    definitions: &[WrittenDefinition<'_>],
+) -> Result<String, PublishError>
+    ensures { Gives result (outcome (map definition_of definitions.now)) }
 {
     let Some(names) = plain_type_names(alloc, definitions)? else {
         return Err(PublishError::NotYet);
@@ -78,8 +82,8 @@ pub fn publish(alloc: Global, bytes: &[u8]) -> Result<String, PublishError>
     ensures only { (document : Document) → Spells document bytes.now
         → Gives result (outcome document.definitions) }
 {
-    match read_sdl(alloc, bytes) {
-        Ok(document) => publish_definitions(alloc, document.definitions.as_slice()),
+    match read_document(alloc, bytes) {
+        Ok(document) => publish_definitions(alloc, document.as_slice()),
         Err(error) => Err(PublishError::from(error)),
     }
 }

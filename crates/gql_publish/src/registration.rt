@@ -2,6 +2,7 @@
 
 ghost use Rattle.std.specs.Prelude.{◌≡◌, ◌++◌, ◌∷◌, [], IfOk, OnOk, map, true, false};
 ghost use Rattle.std.specs.List.{list_all};
+ghost use Rattle.gql_text.specs.DocumentOf.{definition_of, field_def_of};
 ghost use Rattle.gql_registry_meta.specs.Views.{fields_in, field_of, meta_of};
 ghost use Rattle.gql_registry_meta.specs.Parts.{is_among};
 ghost use Rattle.gql_registry.specs.Registry.{query_of as query_name};
@@ -11,18 +12,18 @@ ghost use Rattle.gql_publish.specs.Plain.{field_names, is_plain_definition};
 ghost use Rattle.gql_publish.specs.View.{IsWithTypes, field_entry, metas_of, metas};
 
 use gql_registry::{CacheControl, Deprecation, MetaField, MetaType, Registry};
-use gql_text::{Definition, FieldDef, OutOfMemory};
+use gql_text::{Field, Kind, OutOfMemory, WrittenDefinition};
 use indexmap::IndexMap;
 use std::alloc::Global;
 
-fn meta_field(alloc: Global, field: &FieldDef) -> Result<MetaField, OutOfMemory>
-    ensures { IfOk result (λ f. field_of f ≡ (field_entry field.now).1) }
+fn meta_field(alloc: Global, field: &Field<'_>) -> Result<MetaField, OutOfMemory>
+    ensures { IfOk result (λ f. field_of f ≡ (field_entry (field_def_of field.now)).1) }
 {
     Ok(MetaField {
-        name: String::from_str(alloc, field.name.as_str())?,
+        name: String::from_str(alloc, field.key.name.as_str())?,
         description: None,
         args: IndexMap::new(alloc),
-        ty: field.ty.to_string(alloc)?,
+        ty: field.ty.to_type_ref(alloc)?.to_string(alloc)?,
         deprecation: Deprecation::NoDeprecated,
         cache_control: CacheControl::default(),
         external: false,
@@ -41,23 +42,23 @@ fn meta_field(alloc: Global, field: &FieldDef) -> Result<MetaField, OutOfMemory>
 fn add_field(
     alloc: Global,
     fields: &mut IndexMap<String, MetaField>,
-    field: &FieldDef,
+    field: &Field<'_>,
 ) -> Result<(), OutOfMemory>
-    requires { is_among field.now.name (keys_in (fields_in fields.old)) ≡ false }
+    requires { is_among field.now.key.name (keys_in (fields_in fields.old)) ≡ false }
     ensures { OnOk result (
-        fields_in fields.new ≡ fields_in fields.old ++ field_entry field.now ∷ []) }
+        fields_in fields.new ≡ fields_in fields.old ++ field_entry (field_def_of field.now) ∷ []) }
 {
-    let name = String::from_str(alloc, field.name.as_str())?;
+    let name = String::from_str(alloc, field.key.name.as_str())?;
     fields.insert(name, meta_field(alloc, field)?)?;
     Ok(())
 }
 
 fn meta_fields(
     alloc: Global,
-    fields: &[FieldDef],
+    fields: &[Field<'_>],
 ) -> Result<IndexMap<String, MetaField>, OutOfMemory>
-    requires { are_distinct (field_names fields.now) ≡ true }
-    ensures { IfOk result (λ made. fields_in made ≡ map field_entry fields.now) }
+    requires { are_distinct (field_names (map field_def_of fields.now)) ≡ true }
+    ensures { IfOk result (λ made. fields_in made ≡ map field_entry (map field_def_of fields.now)) }
 {
     let mut made = IndexMap::new(alloc);
     for field in fields {
@@ -113,20 +114,21 @@ fn plain_object(
 fn add_type(
     alloc: Global,
     registry: &mut Registry,
-    definition: &Definition,
+    definition: &WrittenDefinition<'_>,
 ) -> Result<(), OutOfMemory>
-    requires { is_plain_definition definition.now ≡ true }
-    ensures types { OnOk result (IsWithTypes registry.old registry.new (metas_of definition.now)) }
+    requires { is_plain_definition (definition_of definition.now) ≡ true }
+    ensures types { OnOk result
+        (IsWithTypes registry.old registry.new (metas_of (definition_of definition.now))) }
     ensures query { query_name registry.new ≡ query_name registry.old }
 {
-    match definition {
-        Definition::Scalar(head) => {
-            registry.insert_type(plain_scalar(alloc, head.name.as_str())?)?;
+    match &definition.kind {
+        Kind::Scalar { key, .. } => {
+            registry.insert_type(plain_scalar(alloc, key.name.as_str())?)?;
             Ok(())
         }
-        Definition::Object { head, fields, .. } => {
-            let fields = meta_fields(alloc, fields.as_slice())?;
-            registry.insert_type(plain_object(alloc, head.name.as_str(), fields)?)?;
+        Kind::Object(object) => {
+            let fields = meta_fields(alloc, object.fields.as_slice())?;
+            registry.insert_type(plain_object(alloc, object.key.name.as_str(), fields)?)?;
             Ok(())
         }
         _ => Ok(()),
@@ -136,10 +138,11 @@ fn add_type(
 fn add_types(
     alloc: Global,
     registry: &mut Registry,
-    definitions: &[Definition],
+    definitions: &[WrittenDefinition<'_>],
 ) -> Result<(), OutOfMemory>
-    requires { list_all is_plain_definition definitions.now ≡ true }
-    ensures types { OnOk result (IsWithTypes registry.old registry.new (metas definitions.now)) }
+    requires { list_all is_plain_definition (map definition_of definitions.now) ≡ true }
+    ensures types { OnOk result
+        (IsWithTypes registry.old registry.new (metas (map definition_of definitions.now))) }
     ensures query { query_name registry.new ≡ query_name registry.old }
 {
     for definition in definitions {
@@ -152,11 +155,12 @@ fn add_types(
 pub(crate) fn register(
     alloc: Global,
     registry: &mut Registry,
-    definitions: &[Definition],
+    definitions: &[WrittenDefinition<'_>],
     query: &str,
 ) -> Result<(), OutOfMemory>
-    requires { list_all is_plain_definition definitions.now ≡ true }
-    ensures types { OnOk result (IsWithTypes registry.old registry.new (metas definitions.now)) }
+    requires { list_all is_plain_definition (map definition_of definitions.now) ≡ true }
+    ensures types { OnOk result
+        (IsWithTypes registry.old registry.new (metas (map definition_of definitions.now))) }
     ensures query { OnOk result (query_name registry.new ≡ query.now) }
 {
     registry.set_query_type(query)?;

@@ -1,6 +1,8 @@
 //! The rules of a schema, in their order. Each function answers the first broken rule of its group.
+#![tactic(auto, using(crate::proofs::Firsts::first_step, crate::proofs::Firsts::any_map))]
 
-ghost use Rattle.std.specs.Prelude.{◌≡◌};
+ghost use Rattle.std.specs.Prelude.{◌≡◌, map};
+ghost use Rattle.gql_text.specs.DocumentOf.{definition_of, field_def_of};
 ghost use Rattle.gql_check_rules.specs.Faults.{already_exists};
 ghost use Rattle.gql_check_rules.specs.Tests.{fault_if, first_in, first_of};
 ghost use Rattle.gql_dynamic.specs.Errors.{Tells};
@@ -9,7 +11,7 @@ ghost use Rattle.gql_publish.specs.Rules.{exists, is_object_named, is_object, mi
 
 use crate::names::Names;
 use gql_dynamic::SchemaError;
-use gql_text::{Definition, FieldDef};
+use gql_text::{Field, Kind, WrittenDefinition};
 use std::alloc::Global;
 
 #[tactic(auto, unfolding(gql_check_rules::specs::Schema::is_system_scalar))]
@@ -36,19 +38,18 @@ fn check_name(alloc: Global, name: &str) -> Result<(), SchemaError>
     Ok(())
 }
 
-fn check_type_name(alloc: Global, definition: &Definition) -> Result<(), SchemaError>
-    ensures { Tells result (name_fault definition.now) }
+fn check_type_name(alloc: Global, definition: &WrittenDefinition<'_>) -> Result<(), SchemaError>
+    ensures { Tells result (name_fault (definition_of definition.now)) }
 {
-    match definition {
-        Definition::Scalar(head) => check_name(alloc, head.name.as_str()),
-        Definition::Object { head, .. } => check_name(alloc, head.name.as_str()),
+    match &definition.kind {
+        Kind::Scalar { key, .. } => check_name(alloc, key.name.as_str()),
+        Kind::Object(object) => check_name(alloc, object.key.name.as_str()),
         _ => Ok(()),
     }
 }
 
-#[tactic(auto, using(crate::proofs::Firsts::first_step))]
-fn check_type_names(alloc: Global, definitions: &[Definition]) -> Result<(), SchemaError>
-    ensures { Tells result (first_in name_fault definitions.now) }
+fn check_type_names(alloc: Global, definitions: &[WrittenDefinition<'_>]) -> Result<(), SchemaError>
+    ensures { Tells result (first_in name_fault (map definition_of definitions.now)) }
 {
     for definition in definitions {
         check_type_name(alloc, definition)?;
@@ -68,9 +69,8 @@ fn check_exists(alloc: Global, defined: &Names<'_>, name: &str) -> Result<(), Sc
 }
 
 /// The type of each field exists.
-#[tactic(auto, using(crate::proofs::Firsts::first_step))]
-fn check_fields(alloc: Global, defined: &Names<'_>, fields: &[FieldDef]) -> Result<(), SchemaError>
-    ensures { Tells result (first_in (field_missing defined.now) fields.now) }
+fn check_fields(alloc: Global, defined: &Names<'_>, fields: &[Field<'_>]) -> Result<(), SchemaError>
+    ensures { Tells result (first_in (field_missing defined.now) (map field_def_of fields.now)) }
 {
     for field in fields {
         check_exists(alloc, defined, field.ty.type_name())?;
@@ -81,23 +81,23 @@ fn check_fields(alloc: Global, defined: &Names<'_>, fields: &[FieldDef]) -> Resu
 fn check_field_types(
     alloc: Global,
     defined: &Names<'_>,
-    definition: &Definition,
+    definition: &WrittenDefinition<'_>,
 ) -> Result<(), SchemaError>
-    ensures { Tells result (existence_fault defined.now definition.now) }
+    ensures { Tells result (existence_fault defined.now (definition_of definition.now)) }
 {
-    match definition {
-        Definition::Object { fields, .. } => check_fields(alloc, defined, fields.as_slice()),
+    match &definition.kind {
+        Kind::Object(object) => check_fields(alloc, defined, object.fields.as_slice()),
         _ => Ok(()),
     }
 }
 
-#[tactic(auto, using(crate::proofs::Firsts::first_step))]
 fn check_existence(
     alloc: Global,
     defined: &Names<'_>,
-    definitions: &[Definition],
+    definitions: &[WrittenDefinition<'_>],
 ) -> Result<(), SchemaError>
-    ensures { Tells result (first_in (existence_fault defined.now) definitions.now) }
+    ensures { Tells result
+        (first_in (existence_fault defined.now) (map definition_of definitions.now)) }
 {
     for definition in definitions {
         check_field_types(alloc, defined, definition)?;
@@ -105,27 +105,27 @@ fn check_existence(
     Ok(())
 }
 
-fn is_object_named(name: &str, definition: &Definition) -> bool
-    ensures { result ≡ is_object_named name.now definition.now }
+fn is_object_named(name: &str, definition: &WrittenDefinition<'_>) -> bool
+    ensures { result ≡ is_object_named name.now (definition_of definition.now) }
 {
-    match definition {
-        Definition::Object { head, .. } => name == head.name.as_str(),
+    match &definition.kind {
+        Kind::Object(object) => name == object.key.name.as_str(),
         _ => false,
     }
 }
 
-fn is_object(definitions: &[Definition], name: &str) -> bool
-    ensures { result ≡ is_object definitions.now name.now }
+fn is_object(definitions: &[WrittenDefinition<'_>], name: &str) -> bool
+    ensures { result ≡ is_object (map definition_of definitions.now) name.now }
 {
     definitions.iter().any(|d| is_object_named(name, d))
 }
 
 fn check_query_root(
-    definitions: &[Definition],
+    definitions: &[WrittenDefinition<'_>],
     defined: &Names<'_>,
     query: &str,
 ) -> Result<(), SchemaError>
-    ensures { Tells result (root_fault definitions.now defined.now query.now) }
+    ensures { Tells result (root_fault (map definition_of definitions.now) defined.now query.now) }
 {
     if exists(defined, query) && !is_object(definitions, query) {
         return Err(SchemaError::QueryRoot);
@@ -133,23 +133,22 @@ fn check_query_root(
     Ok(())
 }
 
-fn check_object(alloc: Global, definition: &Definition) -> Result<(), SchemaError>
-    ensures { Tells result (object_fault definition.now) }
+fn check_object(alloc: Global, definition: &WrittenDefinition<'_>) -> Result<(), SchemaError>
+    ensures { Tells result (object_fault (definition_of definition.now)) }
 {
-    let Definition::Object { head, fields, .. } = definition else {
+    let Kind::Object(object) = &definition.kind else {
         return Ok(());
     };
-    if fields.as_slice().is_empty() {
+    if object.fields.as_slice().is_empty() {
         return Err(SchemaError::EmptyObject {
-            ty: String::from_str(alloc, head.name.as_str())?,
+            ty: String::from_str(alloc, object.key.name.as_str())?,
         });
     }
     Ok(())
 }
 
-#[tactic(auto, using(crate::proofs::Firsts::first_step))]
-fn check_objects(alloc: Global, definitions: &[Definition]) -> Result<(), SchemaError>
-    ensures { Tells result (first_in object_fault definitions.now) }
+fn check_objects(alloc: Global, definitions: &[WrittenDefinition<'_>]) -> Result<(), SchemaError>
+    ensures { Tells result (first_in object_fault (map definition_of definitions.now)) }
 {
     for definition in definitions {
         check_object(alloc, definition)?;
@@ -160,11 +159,12 @@ fn check_objects(alloc: Global, definitions: &[Definition]) -> Result<(), Schema
 /// The first broken rule of definitions, with the names of the types that they define and that of the query root.
 pub(crate) fn check(
     alloc: Global,
-    definitions: &[Definition],
+    definitions: &[WrittenDefinition<'_>],
     defined: &Names<'_>,
     query: &str,
 ) -> Result<(), SchemaError>
-    ensures { Tells result (first_of (tests definitions.now defined.now query.now)) }
+    ensures { Tells result
+        (first_of (tests (map definition_of definitions.now) defined.now query.now)) }
 {
     check_type_names(alloc, definitions)?;
     check_exists(alloc, defined, query)?;

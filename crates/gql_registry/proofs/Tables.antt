@@ -1,13 +1,12 @@
 -- Rows with distinct names, each put in turn.
-use Rattle.std.proofs.Common.{arith, ◌≡◌, Bool, true, false, ◌||◌, ◌&&◌, not, List, [], ◌∷◌, map, fold, refl, ap, sym, ◌∙◌, Bor}
-use Rattle.std.specs.List.{AllByRecursion, IsDistinct, list_any}
+use Rattle.std.proofs.Common.{◌≡◌, Bool, true, false, ◌||◌, ◌&&◌, not, List, [], ◌∷◌, fold, refl, ap, ◌∙◌, Bor}
+use Rattle.std.specs.List.{AllByRecursion, IsDistinct}
 use Rattle.std.specs.Map.{keys_of}
 use Rattle.std.specs.Str.{bytes_eq}
 use Rattle.indexmap.specs.IndexMap.{insert_all}
 use Rattle.gql_registry_meta.specs.Parts.{Text, is_among, Field, EnumValue}
 use Rattle.gql_registry_meta.specs.Views.{texts_in}
 use Rattle.gql_registry_meta.proofs.Distinct.{inserted_anew}
-use Rattle.gql_registry.specs.Plain.{plain_value, values, fields}
 use Rattle.gql_registry.specs.Tables.{are_distinct, with_value, all_values, field_at, with_row, all_rows, row_names}
 use Rattle.gql_registry.specs.declared.introspection.Row.{Row}
 

@@ -1,6 +1,6 @@
 //! The names that types implement, each list under the name of its type.
 
-ghost use Rattle.std.specs.Prelude.{◌≡◌, IfOk, OnOk, OnErr, None, fold};
+ghost use Rattle.std.specs.Prelude.{◌≡◌, IfOk, IfErr, OnOk, OnErr, None, fold};
 ghost use Rattle.gql_registry.specs.Maps.{types_in, lists_in};
 ghost use Rattle.gql_registry.specs.Registry.{HasOnce, ImplementsOnce, names_of, implements_listed, with_name};
 ghost use Rattle.gql_registry.specs.Registry.{with_list, with_implements, with_type};
@@ -145,6 +145,23 @@ pub(crate) fn put_both(
     }
 }
 
+/// Puts a type under its name, or gives the name back.
+fn put_named(
+    types: &mut BTreeMap<String, MetaType>,
+    name: String,
+    ty: MetaType,
+) -> Result<(), String>
+    requires { text_of name ≡ name_of (meta_of ty) }
+    ensures types { OnOk result (types_in types.new ≡ with_type (types_in types.old) (meta_of ty)) }
+    ensures stay { OnErr result (types_in types.new ≡ types_in types.old) }
+    ensures back { IfErr result (λ name. text_of name ≡ name_of (meta_of ty)) }
+{
+    match types.insert(name, ty) {
+        Ok(_) => Ok(()),
+        Err(refused) => Err(refused.value.0),
+    }
+}
+
 /// The same where the type has no list yet.
 fn put_first(
     types: &mut BTreeMap<String, MetaType>,
@@ -164,12 +181,9 @@ fn put_first(
     ensures lists_stay { OnErr result (lists_in lists.new ≡ lists_in lists.old) }
 {
     lists.insert(key, names)?;
-    match types.insert(name, ty) {
-        Ok(_) => Ok(()),
-        Err(refused) => {
-            let (name, _ty) = refused.value;
-            lists.remove(name.as_str());
-            Err(OutOfMemory)
-        }
+    if let Err(name) = put_named(types, name, ty) {
+        lists.remove(name.as_str());
+        return Err(OutOfMemory);
     }
+    Ok(())
 }

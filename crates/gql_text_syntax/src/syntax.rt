@@ -1,6 +1,7 @@
 //! The tree of a document as it is written, with each place at which a fault can stand.
 
 ghost use Rattle.std.specs.Prelude.{◌≡◌, IfOk};
+ghost use Rattle.gql_text_values.specs.TypeRefs.{innermost, reference};
 ghost use Rattle.gql_text_syntax.specs.Types.{type_of};
 
 use crate::operation::OperationType;
@@ -29,6 +30,17 @@ pub enum TypeTree<'t> {
 }
 
 impl<'t> TypeTree<'t> {
+    /// The name within all lists and marks of non-null.
+    pub fn type_name(&self) -> &'t str
+        ensures { result.now ≡ innermost (reference (type_of self.now)) }
+    {
+        match self {
+            TypeTree::Named(name) => name.as_str(),
+            TypeTree::NonNull(inner) => inner.get().type_name(),
+            TypeTree::List(inner) => inner.get().type_name(),
+        }
+    }
+
     /// The type reference that is built alike, with a copy of the name.
     pub fn to_type_ref(&self, alloc: Global) -> Result<TypeRef, OutOfMemory>
         ensures { IfOk result (λ t. t ≡ type_of self.now) }

@@ -1,5 +1,6 @@
-use Rattle.std.proofs.Common.{◌≡◌, Some, Ok, string_bytes, List, subst, sym, ap, ap₂, ◌∙◌}
+use Rattle.std.proofs.Common.{◌≡◌, Some, Ok, string_bytes, List, map, subst, sym, ap, ap₂, ◌∙◌}
 use Rattle.std.specs.Prelude.{IfSome, Option}
+use Rattle.gql_text.specs.DocumentOf.{definition_of}
 use Rattle.gql_registry_meta.specs.Parts.{Text, Meta}
 use Rattle.gql_registry.specs.Registry.{with_types}
 use Rattle.gql_publish.specs.View.{view_of, metas, system_directive_views}
@@ -14,7 +15,7 @@ use Rattle.gql_publish.proofs.publishing.publish_definitions.Goals as goal
 
 pub returns-in-Err : goal.returns-in-Err
 returns-in-Err c =
-    let ds = c.args.definitions.now in
+    let ds = map definition_of c.args.definitions.now in
     let facts = rw c.in-Some.is at c.in_ok-names.ensures in
     let same : first_of (tests ds c.in-Some.names c.root_query_name-query.result.now) ≡ first_plain_fault ds (root_query_name ds) =
     ap₂ (λ (names : List Text) (query : Text). first_of (tests ds names query)) facts.1 c.root_query_name-query.ensures in
@@ -22,7 +23,7 @@ returns-in-Err c =
 
 pub returns : goal.returns
 returns c =
-    let ds = c.args.definitions.now in
+    let ds = map definition_of c.args.definitions.now in
     let facts = rw c.in-Some.is at c.in_ok-names.ensures in
     let same : first_of (tests ds c.in-Some.names c.root_query_name-query.result.now) ≡ first_plain_fault ds (root_query_name ds) =
     ap₂ (λ (names : List Text) (query : Text). first_of (tests ds names query)) facts.1 c.root_query_name-query.ensures in
