@@ -1,5 +1,5 @@
 -- Tests over the members of a list that are seen in another way, one member at a time.
-use Rattle.std.proofs.Common.{◌≡◌, ℕ, suc, ◌+◌, ◌<◌, List, [], ◌∷◌, length, map, drop, get_or, refl, ap, ap₂, sym, add-one, drop-cons}
+use Rattle.std.proofs.Common.{◌≡◌, ℕ, suc, ◌+◌, ◌<◌, List, [], ◌∷◌, length, map, drop, get_or, refl, ap, sym, add-one, drop-cons}
 use Rattle.std.specs.Prelude.{Option, Bool, ◌&&◌, ◌||◌}
 use Rattle.std.specs.List.{list_all, list_any}
 use Rattle.gql_check_rules.specs.Tests.{or_else, first_in}

@@ -1,5 +1,6 @@
 pub mod Explained
 pub mod Firsts
+pub mod Seen
 pub mod NameLists
 pub mod Outcomes
 pub mod Registering

@@ -1,5 +1,5 @@
 -- Lists of names: what a set of borrowed names has, and one step of a look at each.
-use Rattle.std.proofs.Common.{arith, Bor, ℕ, ◌+◌, ◌<◌, ◌≡◌, ◌++◌, Bool, true, false, cond, not, List, [], ◌∷◌, length, map, drop, get_or, refl, ap, ◌∙◌, sym, append_assoc}
+use Rattle.std.proofs.Common.{Bor, ℕ, ◌+◌, ◌<◌, ◌≡◌, ◌++◌, Bool, true, false, cond, not, List, [], ◌∷◌, length, map, drop, get_or, refl, ap, ◌∙◌, sym, append_assoc}
 use Rattle.std.proofs.lemmas.List.{append-nil}
 use Rattle.std.specs.Prelude.{◌&&◌}
 use Rattle.std.specs.List.{list_any, flat_map}
@@ -34,7 +34,7 @@ are_new-append earlier (x ∷ xs) ys =
 -- one step of the look whether names are new
 new_step : {X Y : Type 0} (names : Y → List Text) (see : X → Y) (xs : List X) (i : ℕ) (x : X) (earlier : List Text) → i < length xs → x ≡ get_or xs i x
     → are_new earlier (flat_map names (map see (drop i xs)))
-      ≡ (are_new earlier (names (see x)) && are_new (earlier ++ names (see x)) (flat_map names (map see (drop (i + 1) xs))))
+    ≡ (are_new earlier (names (see x)) && are_new (earlier ++ names (see x)) (flat_map names (map see (drop (i + 1) xs))))
 new_step names see xs i x earlier lt e =
     ap (λ l. are_new earlier (flat_map names (map see l))) (drop_step xs i x lt e) ∙ are_new-append earlier (names (see x)) (flat_map names (map see (drop (i + 1) xs)))
 

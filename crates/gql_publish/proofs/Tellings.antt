@@ -1,5 +1,5 @@
 -- How a run ends, from what its parts answered.
-use Rattle.std.proofs.Common.{◌≡◌, arith, List, ℕ, String, refl, sym, subst, length, Ok, ◌≤◌, string_bytes}
+use Rattle.std.proofs.Common.{◌≡◌, List, ℕ, String, refl, subst, length, ◌≤◌}
 use Rattle.std.specs.declared.alloc.Global.{Global}
 use Rattle.gql_streams.specs.Outside.{Input, Output}
 use Rattle.gql_streams.specs.Reading.{ReadsAll}

@@ -1,8 +1,7 @@
 -- What the errors of the code stand for, and the lines that tell them.
 use Rattle.std.specs.declared.string.String.{String}
 use Rattle.std.specs.declared.alloc.Global.{Global}
-use Rattle.std.specs.Prelude.{ℕ, [], ◌∷◌, ◌++◌, ◌≡◌, string_bytes, codes, decimal, IsSomeAnd}
-use Rattle.std.specs.List.{concat}
+use Rattle.std.specs.Prelude.{ℕ, ◌++◌, ◌≡◌, string_bytes, codes, decimal, IsSomeAnd}
 use Rattle.gql_registry_meta.specs.Parts.{Text}
 use Rattle.gql_publish.specs.declared.error.PublishError.{PublishError}
 use Rattle.gql_publish.specs.declared.error.PublishError.TheVariants as publish_error

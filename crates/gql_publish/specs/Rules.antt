@@ -1,6 +1,6 @@
 -- The rules of a schema: section 3 of the GraphQL specification, October 2021. The answer is the first broken rule, in
 -- the order of the groups and, within a group, in the order of the definitions.
-use Rattle.std.specs.Prelude.{Bool, true, false, not, ◌&&◌, ◌||◌, List, [], ◌∷◌, Option, Some, None, codes}
+use Rattle.std.specs.Prelude.{Bool, false, not, ◌&&◌, ◌||◌, List, [], ◌∷◌, Option, None}
 use Rattle.std.specs.List.{list_any}
 use Rattle.std.specs.Str.{bytes_eq}
 use Rattle.gql_registry_meta.specs.Parts.{Text, is_among}

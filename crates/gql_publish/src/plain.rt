@@ -1,14 +1,17 @@
 //! Whether a document is plain.
-#![tactic(auto, using(crate::proofs::Firsts::all_step, crate::proofs::Firsts::all_map, crate::proofs::Firsts::any_map))]
+#![tactic(auto, using(crate::proofs::Firsts::all_step, crate::proofs::Seen::each_field_is_plain, crate::proofs::Seen::one_is_schema_block))]
 
 ghost use Rattle.std.specs.Prelude.{◌≡◌, true, false, map, IfOk, MatchOption};
 ghost use Rattle.std.specs.List.{list_all, list_any};
-ghost use Rattle.gql_text.specs.DocumentOf.{definition_of, field_def_of, head_of, root_line_of};
+ghost use Rattle.gql_registry_meta.specs.Parts.{is_empty};
+ghost use Rattle.gql_text.specs.DocumentOf.{definition_of, field_def_of, head_of, implements_of, root_line_of};
 ghost use Rattle.gql_publish.specs.Plain.{type_names_of, type_names, field_names_of, field_names, is_query, is_bare, is_plain_field, is_query_line, is_plain_definition, is_schema_block, has_only_query, are_plain};
 ghost use Rattle.gql_publish.specs.Names.{are_new, are_distinct, with_new};
 
 use crate::names::Names;
-use gql_text::{Field, Kind, OperationType, OutOfMemory, PlacedName, Root, Use, WrittenDefinition};
+use gql_text::{
+    Field, Implements, Kind, OperationType, OutOfMemory, PlacedName, Root, Use, WrittenDefinition,
+};
 use gql_text_lexer::is_reserved;
 use std::alloc::Global;
 
@@ -27,6 +30,15 @@ fn is_plain_field(field: &Field<'_>) -> bool
         && !is_reserved(field.key.name.as_str())
 }
 
+fn implements_nothing(implements: &Option<Implements<'_>>) -> bool
+    ensures { result ≡ is_empty (implements_of implements.now) }
+{
+    match implements {
+        None => true,
+        Some(implements) => implements.names.as_slice().is_empty(),
+    }
+}
+
 fn is_query_line(roots: &[Root<'_>]) -> bool
     ensures { result ≡ is_query_line (map root_line_of roots.now) }
 {
@@ -43,7 +55,7 @@ fn is_schema_block(definition: &WrittenDefinition<'_>) -> bool
 }
 
 fn are_plain_fields(fields: &[Field<'_>]) -> bool
-    ensures { result ≡ list_all is_plain_field (map field_def_of fields.now) }
+    ensures { result ≡ list_all (λ field. is_plain_field (field_def_of field)) fields.now }
 {
     fields.iter().all(is_plain_field)
 }
@@ -83,10 +95,8 @@ fn is_plain_definition(
         Kind::Scalar { key, uses } => Ok(is_bare(definition, key, uses.as_slice())),
         Kind::Object(object) => {
             let fields = object.fields.as_slice();
-            if !is_bare(definition, &object.key, object.uses.as_slice())
-                || object.implements.is_some()
-                || !are_plain_fields(fields)
-            {
+            let is_bare = is_bare(definition, &object.key, object.uses.as_slice());
+            if !(is_bare && implements_nothing(&object.implements) && are_plain_fields(fields)) {
                 return Ok(false);
             }
             have_distinct_names(alloc, fields)
@@ -111,7 +121,7 @@ fn are_plain_definitions(
 }
 
 fn has_schema_block(definitions: &[WrittenDefinition<'_>]) -> bool
-    ensures { result ≡ list_any is_schema_block (map definition_of definitions.now) }
+    ensures { result ≡ list_any (λ d. is_schema_block (definition_of d)) definitions.now }
 {
     definitions.iter().any(is_schema_block)
 }
@@ -147,7 +157,7 @@ fn distinct_type_names<'t>(
     ensures { IfOk result (λ found. MatchOption found
         (are_distinct (type_names (map definition_of definitions.now)) ≡ false)
         (λ names. (are_distinct (type_names (map definition_of definitions.now)) ≡ true)
-            × (names ≡ type_names (map definition_of definitions.now)))) }
+        × (names ≡ type_names (map definition_of definitions.now)))) }
 {
     let mut names = Names::new(alloc);
     for definition in definitions {
@@ -166,7 +176,7 @@ pub(crate) fn plain_type_names<'t>(
     ensures { IfOk result (λ found. MatchOption found
         (are_plain (map definition_of definitions.now) ≡ false)
         (λ names. (are_plain (map definition_of definitions.now) ≡ true)
-            × (names ≡ type_names (map definition_of definitions.now)))) }
+        × (names ≡ type_names (map definition_of definitions.now)))) }
 {
     if !are_plain_definitions(alloc, definitions)? {
         return Ok(None);

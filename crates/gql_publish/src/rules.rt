@@ -1,7 +1,8 @@
 //! The rules of a schema, in their order. Each function answers the first broken rule of its group.
-#![tactic(auto, using(crate::proofs::Firsts::first_step, crate::proofs::Firsts::any_map))]
+#![tactic(auto, using(crate::proofs::Firsts::first_step))]
 
 ghost use Rattle.std.specs.Prelude.{◌≡◌, map};
+ghost use Rattle.std.specs.List.{list_any};
 ghost use Rattle.gql_text.specs.DocumentOf.{definition_of, field_def_of};
 ghost use Rattle.gql_check_rules.specs.Faults.{already_exists};
 ghost use Rattle.gql_check_rules.specs.Tests.{fault_if, first_in, first_of};
@@ -115,7 +116,8 @@ fn is_object_named(name: &str, definition: &WrittenDefinition<'_>) -> bool
 }
 
 fn is_object(definitions: &[WrittenDefinition<'_>], name: &str) -> bool
-    ensures { result ≡ is_object (map definition_of definitions.now) name.now }
+    ensures { result
+        ≡ list_any (λ d. is_object_named name.now (definition_of d)) definitions.now }
 {
     definitions.iter().any(|d| is_object_named(name, d))
 }
