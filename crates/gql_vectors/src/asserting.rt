@@ -17,11 +17,6 @@ pub(crate) fn same(rt: &impl Abort, text: &str, want: &str, of: &str) {
     assert_eq!(rt; text, want, "of {of}");
 }
 
-/// Asserts that both hold or neither does.
-pub(crate) fn agree(rt: &impl Abort, holds: bool, want: bool, of: &str) {
-    assert!(rt; holds == want, "of {of}");
-}
-
 /// The printed text of a value, through its bound.
 pub(crate) fn printed<T: Display>(rt: &impl Abort, alloc: Global, value: &T) -> String {
     got(rt, format!(in alloc; "{value}"))

@@ -12,7 +12,7 @@ use std::process::Abort;
 use std::sync::ledger::{Blank, Ledger};
 
 /// A builder of a schema of these types, which is not checked.
-fn begun(rt: &impl Abort, alloc: Global, rows: &[Row<'_>]) -> SchemaBuilder {
+pub(crate) fn begun(rt: &impl Abort, alloc: Global, rows: &[Row<'_>]) -> SchemaBuilder {
     let mut builder = got(rt, Schema::build(alloc, "Query", None, None));
     for row in rows {
         builder = got(rt, builder.register(built(rt, alloc, *row)));
@@ -32,12 +32,12 @@ fn counted<L: Ledger>(rt: &impl Abort, alloc: Global, types: &SchemaTypes, blank
 }
 
 /// The name of the first input object that needs itself, or `none`.
-fn first_cycle(rt: &impl Abort, alloc: Global, types: &SchemaTypes) -> String {
+pub(crate) fn first_cycle(rt: &impl Abort, alloc: Global, types: &SchemaTypes) -> String {
     counted::<Brand>(rt, alloc, types, Blank::new(1))
 }
 
 /// The sentence of the first rule that the types break, or `ok`.
-fn sentence(rt: &impl Abort, alloc: Global, types: &SchemaTypes) -> String {
+pub(crate) fn sentence(rt: &impl Abort, alloc: Global, types: &SchemaTypes) -> String {
     match check(alloc, types) {
         Ok(()) => text(rt, alloc, "ok"),
         Err(error) => got(rt, error.message(alloc)),
@@ -47,7 +47,7 @@ fn sentence(rt: &impl Abort, alloc: Global, types: &SchemaTypes) -> String {
 /// Types, the sentence of the first rule that they break, and the first input object that needs itself.
 type Case = (&'static [Row<'static>], &'static str, &'static str);
 
-const QUERY: Row<'static> = Row::Object("Query", &[("v", Named("Int"), &[])], &[]);
+pub(crate) const QUERY: Row<'static> = Row::Object("Query", &[("v", Named("Int"), &[])], &[]);
 
 const CASES: [Case; 3] = [
     (

@@ -4,6 +4,8 @@
 #[cfg(test)]
 mod asserting;
 #[cfg(test)]
+mod chain_tests;
+#[cfg(test)]
 mod check_tests;
 #[cfg(test)]
 mod document_tests;

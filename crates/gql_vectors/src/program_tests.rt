@@ -117,7 +117,37 @@ fn is_refused(rt: &impl Abort, alloc: Global, input: &str, line: &str) {
     ends(rt, &ending, 1, "", line, input);
 }
 
-const FAULTS: [(&str, &str); 13] = [
+const FAULTS: [(&str, &str); 28] = [
+    (
+        "type Query{v(a:ID=-9223372036854775809):Int}",
+        "number out of range at 18\n",
+    ),
+    (
+        "type Query{v(a:ID=340282366920938463463374607431768211456):Int}",
+        "number out of range at 18\n",
+    ),
+    (
+        "type Query{v(a:ID=-340282366920938463463374607431768211456):Int}",
+        "number out of range at 18\n",
+    ),
+    ("type Query{v(a:ID=[1.5", "unsupported float at 19\n"),
+    ("type Query{v:1.5}", "syntax error at 13\n"),
+    ("type Query{v(a:Int=01", "syntax error at 19\n"),
+    ("type Query{v:Int", "syntax error at 16\n"),
+    ("type Query{v:Int}\"", "syntax error at 17\n"),
+    ("type Query{v:Int}\u{1}", "syntax error at 17\n"),
+    ("type Query{v:Int} extend", "unsupported extend at 18\n"),
+    ("\"d\" extend type T", "syntax error at 4\n"),
+    ("union U = type Query{v:Int}", "syntax error at 15\n"),
+    ("#\u{e9}\u{20ac}\u{1f600}\n%", "syntax error at 11\n"),
+    (
+        "\"\u{e9}\u{20ac}\u{1f600}\" scalar 1",
+        "syntax error at 19\n",
+    ),
+    (
+        "scalar __A scalar __A type Query{v:Int}",
+        "\"__A\" is a reserved name at 7\n",
+    ),
     ("", "syntax error at 0\n"),
     (
         "type Query{v(a:ID=18446744073709551616):Int}",

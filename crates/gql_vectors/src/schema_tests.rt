@@ -4,8 +4,8 @@ use crate::asserting::{add_word, debugged, got, same};
 use crate::rows::Reference::Named;
 use crate::rows::{Member, Row, built};
 use gql_check::{Registry, Schema, SchemaBuilder};
-use gql_dynamic::{Field, Object, Scalar, Type};
-use gql_registry::{IntrospectionMode, MetaDirective, MetaType};
+use gql_dynamic::{Field, Object};
+use gql_registry::{MetaDirective, MetaType};
 use gql_text::TypeRef;
 use std::alloc::Global;
 use std::process::Abort;
@@ -34,7 +34,7 @@ fn implementers(rt: &impl Abort, alloc: Global) -> Schema {
 }
 
 /// The names of the possible types of a type.
-pub(crate) fn possible_types(rt: &impl Abort, alloc: Global, ty: Option<&MetaType>) -> String {
+fn possible_types(rt: &impl Abort, alloc: Global, ty: Option<&MetaType>) -> String {
     let mut out = String::new(alloc);
     if let Some(names) = ty.and_then(|ty| ty.possible_types()) {
         for name in names.iter() {
@@ -53,7 +53,7 @@ fn implementers_are_possible_types_in_the_order_of_registration(rt: HostRuntime)
 }
 
 /// The definition of a system directive.
-pub(crate) fn directive(rt: &impl Abort, alloc: Global, name: &str) -> MetaDirective {
+fn directive(rt: &impl Abort, alloc: Global, name: &str) -> MetaDirective {
     let mut registry = Registry::new(alloc);
     got(rt, registry.add_system_types());
     match registry.directives().get(name) {
@@ -74,33 +74,26 @@ fn directives(rt: &impl Abort, alloc: Global, registry: &Registry) -> String {
     out
 }
 
+/// The definition of `skip`, which may be used again in one place.
+fn repeatable_skip(rt: &impl Abort, alloc: Global) -> MetaDirective {
+    let mut skip = directive(rt, alloc, "skip");
+    skip.is_repeatable = true;
+    skip
+}
+
+/// A schema with a query root of one field, and a definition of `skip`.
+fn with_skip(rt: &impl Abort, alloc: Global) -> Schema {
+    let skip = repeatable_skip(rt, alloc);
+    let builder = got(rt, begun(rt, alloc).directive(skip));
+    got(rt, builder.finish())
+}
+
 #[test]
 fn an_added_directive_takes_the_place_of_the_systems(rt: HostRuntime) {
-    let alloc = rt.alloc();
-    let builder = begun(&rt, alloc);
-    let mut skip = directive(&rt, alloc, "skip");
-    skip.is_repeatable = true;
-    let builder = got(&rt, builder.directive(skip));
-    let schema = got(&rt, builder.finish());
-    let told = directives(&rt, alloc, schema.registry());
+    let schema = with_skip(&rt, rt.alloc());
+    let told = directives(&rt, rt.alloc(), schema.registry());
     let want = "deprecated include oneOf skip repeatable specifiedBy ";
     same(&rt, told.as_str(), want, "the directives");
-}
-
-#[test]
-fn a_schema_tells_about_itself(rt: HostRuntime) {
-    let schema = got(&rt, begun(&rt, rt.alloc()).finish());
-    let registry = schema.into_registry();
-    assert!(rt; registry.has_type("__Schema"));
-    assert_eq!(rt; registry.types().len(), 14);
-}
-
-#[test]
-fn a_schema_may_tell_nothing_about_itself(rt: HostRuntime) {
-    let builder = begun(&rt, rt.alloc()).disable_introspection();
-    let registry = got(&rt, builder.finish()).into_registry();
-    assert_eq!(rt; registry.types().len(), 6);
-    assert!(rt; registry.introspection_mode() == IntrospectionMode::Disabled);
 }
 
 fn field(rt: &impl Abort, alloc: Global) -> Field {
@@ -108,27 +101,16 @@ fn field(rt: &impl Abort, alloc: Global) -> Field {
     got(rt, Field::new(alloc, "a", ty))
 }
 
-#[test]
-fn an_object_takes_a_field_once(rt: HostRuntime) {
-    let alloc = rt.alloc();
-    let object = got(&rt, Object::new(alloc, "O"));
-    let object = got(&rt, object.field(field(&rt, alloc)));
-    let again = object.field(field(&rt, alloc));
-    let want = "Err(AlreadyExists(\"a\"))";
-    same(
-        &rt,
-        debugged(&rt, alloc, &again.map(|_| ())).as_str(),
-        want,
-        "a",
-    );
+/// An object with a field.
+fn object(rt: &impl Abort, alloc: Global) -> Object {
+    let object = got(rt, Object::new(alloc, "O"));
+    got(rt, object.field(field(rt, alloc)))
 }
 
 #[test]
-fn a_type_is_registered_once(rt: HostRuntime) {
-    let mut registry = Registry::new(rt.alloc());
-    let ty = Type::from(got(&rt, Scalar::new(rt.alloc(), "S")));
-    got(&rt, ty.register(&mut registry));
-    let again = ty.register(&mut registry);
-    let want = "Err(AlreadyExists { name: \"S\" })";
-    same(&rt, debugged(&rt, rt.alloc(), &again).as_str(), want, "S");
+fn an_object_takes_a_field_once(rt: HostRuntime) {
+    let alloc = rt.alloc();
+    let again = object(&rt, alloc).field(field(&rt, alloc)).map(|_| ());
+    let told = debugged(&rt, alloc, &again);
+    same(&rt, told.as_str(), "Err(AlreadyExists(\"a\"))", "a");
 }
