@@ -1,0 +1,15 @@
+pub mod Lists
+pub mod Canonical
+pub mod Members
+pub mod Types
+pub mod Locations
+pub mod Directives
+pub mod Sound
+pub mod Names
+pub mod Shown
+pub mod FaultlessMembers
+pub mod FaultlessCanonical
+pub mod Published
+pub mod Orders
+pub mod SameMembers
+pub mod SameViews

@@ -1,0 +1,1 @@
+pub use Rattle.gql_sdl_rows.specs.Bare

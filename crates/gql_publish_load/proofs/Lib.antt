@@ -1,0 +1,4 @@
+pub mod FoundUses
+pub mod Loaded
+pub mod Recordings
+pub mod Taken

@@ -1,0 +1,11 @@
+use Rattle.std.proofs.Common.{arith}
+use Rattle.gql_text.specs.DocumentOf.{input_of}
+use Rattle.gql_parts.specs.BuilderViews.{subscription_field_parts}
+use Rattle.gql_publish_document.specs.Members.{input_parts}
+use Rattle.gql_publish_load.proofs.Taken.{goes_last}
+use Rattle.gql_publish_load.proofs.fields.SubscriptionFieldTakesWrittenInput.take.Goals as goal
+
+pub returns : goal.returns
+returns c =
+    let e = goes_last (subscription_field_parts c.args.self).arguments c.args.source.now.key.name (input_parts (input_of c.args.source.now)) c.requires.new in
+    grind arith

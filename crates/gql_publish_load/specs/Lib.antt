@@ -1,0 +1,4 @@
+pub mod Errors
+pub mod Taking
+pub mod Attributes
+pub mod Loading

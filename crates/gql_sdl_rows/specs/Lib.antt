@@ -1,0 +1,4 @@
+pub mod Literals
+pub mod Bare
+pub mod Shown
+pub mod Faultless

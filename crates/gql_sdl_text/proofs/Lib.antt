@@ -1,0 +1,4 @@
+pub mod Sorting
+pub mod Characters
+pub mod Lendings
+pub mod Printing
