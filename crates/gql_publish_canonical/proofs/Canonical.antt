@@ -1,7 +1,7 @@
 -- The canonical form of a document: what the text of its view spells, apart from places. Attributes stand before all other
 -- uses; types and directive definitions stand in name order, and members where that is asked; the arguments of a directive
 -- have neither descriptions nor uses; the schema block is explicit.
-use Rattle.std.specs.Prelude.{Bool, true, false, List, [], ◌∷◌, ◌++◌, filter, map, not, Option, Some, None, codes}
+use Rattle.std.specs.Prelude.{Bool, true, List, [], ◌∷◌, ◌++◌, filter, map, not, Option, Some, None, codes}
 use Rattle.std.specs.List.{filter_map}
 use Rattle.std.specs.Option.{is_some, unwrap_or}
 use Rattle.gql_text_syntax.specs.declared.operation.OperationType.TheVariants.{Query, Mutation, Subscription}

@@ -1,11 +1,11 @@
 -- The canonical form of a document without owner faults has none.
-use Rattle.std.proofs.Common.{◌≡◌, Bool, true, false, cond, List, [], ◌∷◌, ◌++◌, filter, map, Option, Some, None, codes, refl, sym, ap, ap₂, subst, ◌∙◌, rules}
+use Rattle.std.proofs.Common.{◌≡◌, Bool, true, false, cond, List, [], ◌∷◌, ◌++◌, filter, map, Option, Some, None, codes, refl, sym, ap, subst, ◌∙◌, rules}
 use Rattle.std.proofs.lemmas.List.{append-nil, map-append}
 use Rattle.std.proofs.lemmas.List.Elements.{filter_map-append}
 use Rattle.std.proofs.lemmas.Simd.{map-map}
-use Rattle.std.specs.Prelude.{◌&&◌, ◌||◌, not}
-use Rattle.std.specs.List.{AllByRecursion, filter_map, find, list_all, list_any}
-use Rattle.std.specs.Option.{option_map, unwrap_or}
+use Rattle.std.specs.Prelude.{◌||◌, not}
+use Rattle.std.specs.List.{AllByRecursion, filter_map, find, list_all}
+use Rattle.std.specs.Option.{unwrap_or}
 use Rattle.std.specs.Str.{bytes_eq}
 use Rattle.gql_text_lexer.specs.Forms.{is_reserved}
 use Rattle.gql_text_values.specs.declared.const_value.ConstValue.TheFolds.{the_lemmas}
@@ -13,14 +13,13 @@ use Rattle.gql_text_values.specs.declared.const_value.ConstValue.TheVariants as 
 use Rattle.gql_text_syntax.specs.declared.operation.OperationType.{OperationType}
 use Rattle.gql_text_syntax.specs.declared.operation.OperationType.TheVariants.{Query, Mutation, Subscription}
 use Rattle.gql_text.specs.Owners.{no_names}
-use Rattle.gql_text.specs.Roots.{operation_word, is_schema, root_of, root_by, root_line as first_line, same_operation}
+use Rattle.gql_text.specs.Roots.{operation_word, is_schema, root_of, root_by, root_line as first_line}
 use Rattle.gql_text.specs.WrittenRoots.{is_root}
 use Rattle.gql_text.specs.declared.document.Definition.{Definition}
 use Rattle.gql_text.specs.declared.document.Definition.TheVariants as definition
 use Rattle.gql_text.specs.declared.document.DirectiveDef.{DirectiveDef}
 use Rattle.gql_text.specs.declared.document.Document.{Document}
 use Rattle.gql_text.specs.declared.document.FieldDef.{FieldDef}
-use Rattle.gql_text.specs.declared.document.InputDef.{InputDef}
 use Rattle.gql_text.specs.declared.document.RootLine.{RootLine}
 use Rattle.gql_text.specs.declared.document.TypeHead.{TypeHead}
 use Rattle.gql_registry_meta.specs.Parts.{Text, Invocation, is_empty, is_among}
@@ -32,9 +31,9 @@ use Rattle.gql_publish_document.specs.Uses.{url_in, has_one_of, invocations_in}
 use Rattle.gql_sdl_view.specs.Options.{Options, Choice, document_choice}
 use Rattle.gql_sdl_view.specs.Ordered.{arranged}
 use Rattle.gql_sdl_view.specs.View.{is_needed}
-use Rattle.gql_sdl_rows.specs.Faultless.{are_new, are_distinct, has_distinct_keys, Owner, on_scalar, on_input, on_other, are_faultless_uses, are_faultless_inputs, are_faultless_fields, are_faultless_values, is_faultless_head, is_faultless_like, are_attributes, is_faultless_root, is_faultless_object, is_faultless, type_name, directive_name, has_one_block, has_query, are_faultless}
+use Rattle.gql_sdl_rows.specs.Faultless.{are_distinct, has_distinct_keys, Owner, on_scalar, on_input, on_other, are_faultless_uses, are_faultless_inputs, are_faultless_fields, are_faultless_values, is_faultless_head, is_faultless_like, are_attributes, is_faultless_root, is_faultless_object, is_faultless, type_name, directive_name, has_one_block, has_query, are_faultless}
 use Rattle.gql_sdl_rows.specs.Shown.{url_uses, one_of_uses, root_line, optional_line, directive_definitions}
-use Rattle.gql_publish_canonical.proofs.Canonical.{at_zero, canonical_head, with_uses, canonical_argument, canonical_fields, canonical_type, type_of, is_type, ordered_definitions, canonical_types, canonical_directive, system_definitions, own_directives, is_missing, ordered_directive_definitions, canonical_directives, canonical_roots, canonical}
+use Rattle.gql_publish_canonical.proofs.Canonical.{at_zero, canonical_head, with_uses, canonical_fields, canonical_type, type_of, is_type, ordered_definitions, canonical_types, canonical_directive, system_definitions, own_directives, is_missing, ordered_directive_definitions, canonical_directives, canonical_roots, canonical}
 use Rattle.gql_publish_canonical.proofs.FaultlessMembers.{both, join, all_pass, pass_all, list_all-append, uses_pass, url_pass, one_of_pass, inputs_pass, arguments_pass, fields_pass, values_pass, head_attributes, root_fields_pass}
 use Rattle.gql_publish_canonical.proofs.Lists.{all_arranged, all_filter, all_append, all_map}
 use Rattle.gql_publish_canonical.proofs.Locations.{turned}
@@ -99,11 +98,11 @@ types_pass choice root scope ds e =
 -- ---- names of types
 
 -- a definition of a type, and its name
-abbrev name_of : Definition → Text
+abbrev pub name_of : Definition → Text
 name_of d = unwrap_or (type_name d) []
 
 -- it has a name as a type
-abbrev HasName : Definition → Type 0
+abbrev pub HasName : Definition → Type 0
 HasName d = type_name d ≡ Some (name_of d)
 
 name_stays : (choice : Choice) (d : Definition) → type_name (canonical_type choice d) ≡ type_name d
@@ -120,7 +119,7 @@ names_stay : (choice : Choice) (ds : List Definition) → AllByRecursion HasName
 names_stay choice [] a = refl
 names_stay choice (d ∷ ds) a = rw (name_stays choice d, a.0) (ap (λ (l : List Text). name_of d ∷ l) (names_stay choice ds a.1))
 
-named_types : (root : Option Text) (ds : List Definition) → AllByRecursion HasName (filter (is_type root) ds)
+pub named_types : (root : Option Text) (ds : List Definition) → AllByRecursion HasName (filter (is_type root) ds)
 named_types root [] = tt
 named_types root (definition.SchemaBlock roots at ∷ ds) = named_types root ds
 named_types root (definition.Scalar head ∷ ds) = (refl, named_types root ds)

@@ -1,15 +1,13 @@
 -- The parts of a canonical form have no owner fault where those of the document have none.
-use Rattle.std.proofs.Common.{◌≡◌, Bool, true, false, cond, List, [], ◌∷◌, ◌++◌, filter, map, Option, Some, None, codes, refl, sym, ap, ap₂, subst, ◌∙◌, rules}
+use Rattle.std.proofs.Common.{◌≡◌, Bool, true, false, cond, List, [], ◌∷◌, ◌++◌, filter, map, Option, Some, None, refl, sym, ap, ap₂, subst, ◌∙◌, rules}
 use Rattle.std.proofs.lemmas.List.{append-nil, map-append}
 use Rattle.std.proofs.lemmas.List.Elements.{filter_map-append}
-use Rattle.std.proofs.lemmas.Simd.{map-map}
-use Rattle.std.specs.Prelude.{◌&&◌, ◌||◌, not}
+use Rattle.std.specs.Prelude.{◌&&◌, not}
 use Rattle.std.specs.List.{AllByRecursion, filter_map, list_all}
 use Rattle.gql_text_lexer.specs.Forms.{is_reserved}
-use Rattle.gql_text_values.specs.declared.const_value.ConstValue.{ConstValue}
 use Rattle.gql_text_values.specs.declared.const_value.ConstValue.TheFolds.{the_lemmas}
 use Rattle.gql_text_values.specs.declared.const_value.ConstValue.TheVariants as values
-use Rattle.gql_text.specs.Owners.{no_names, is_attribute}
+use Rattle.gql_text.specs.Owners.{is_attribute}
 use Rattle.gql_text.specs.declared.document.DirectiveUse.{DirectiveUse}
 use Rattle.gql_text.specs.declared.document.EnumValueDef.{EnumValueDef}
 use Rattle.gql_text.specs.declared.document.FieldDef.{FieldDef}

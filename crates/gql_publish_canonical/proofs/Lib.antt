@@ -13,3 +13,7 @@ pub mod Published
 pub mod Orders
 pub mod SameMembers
 pub mod SameViews
+pub mod SameTypes
+pub mod SameDirectives
+pub mod BareViews
+pub mod SameView

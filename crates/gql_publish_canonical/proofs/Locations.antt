@@ -1,5 +1,5 @@
 -- A name of a location stands for that location.
-use Rattle.std.proofs.Common.{◌≡◌, ℕ, Bool, true, false, cond, List, [], ◌∷◌, map, Option, Some, None, refl, sym, ap, ap₂, subst, ◌∙◌}
+use Rattle.std.proofs.Common.{◌≡◌, ℕ, Bool, true, false, cond, List, [], ◌∷◌, map, Option, Some, None, refl, sym, ap₂, subst, ◌∙◌}
 use Rattle.std.specs.Prelude.{◌==◌, if◌then◌else◌}
 use Rattle.std.specs.Cmp.Lexicographic.{bytes_decides}
 use Rattle.std.specs.List.{AllByRecursion, filter_map, find}
@@ -49,12 +49,11 @@ no_row false place name rest e = (refl, e)
 abbrev rows_of : List DirectiveLocation → List (Text × ℕ)
 rows_of places = map (λ (l : DirectiveLocation). (location_text l, code Location)) places
 
-not_found : (places : List DirectiveLocation) (name : Text) (other : ℕ) → find (λ place. bytes_eq (location_text place) name) places ≡ None → sort_in (rows_of places) name other ≡ other
+not_found : (places : List DirectiveLocation) (name : Text) (other : ℕ) → find (λ place. bytes_eq name (location_text place)) places ≡ None → sort_in (rows_of places) name other ≡ other
 not_found [] name other e = refl
 not_found (l ∷ places) name other e =
-    let tests = no_row (bytes_eq (location_text l) name) l name (find (λ place. bytes_eq (location_text place) name) places) e in
-    let other_text : bytes_eq name (location_text l) ≡ false = turned name (location_text l) ∙ tests.0 in
-    rw other_text (not_found places name other tests.1)
+    let tests = no_row (bytes_eq name (location_text l)) l name (find (λ place. bytes_eq name (location_text place)) places) e in
+    rw tests.0 (not_found places name other tests.1)
 
 -- a name that names no location has another sort
 no_location : (name : Text) → location_named name ≡ None → IsOther (name_sort name)
@@ -64,13 +63,13 @@ no_location name e =
     (either (word_in other_words name) (word_in locations name) (others other_words name (code OtherName) (refl, (refl, (refl, (refl, (refl, (refl, (refl, (refl, (refl, tt))))))))) refl)
     (subst IsOther (sym table) refl))
 
-found : (places : List DirectiveLocation) (name : Text) (l : DirectiveLocation) → find (λ place. bytes_eq (location_text place) name) places ≡ Some l → location_text l ≡ name
+found : (places : List DirectiveLocation) (name : Text) (l : DirectiveLocation) → find (λ place. bytes_eq name (location_text place)) places ≡ Some l → location_text l ≡ name
 found [] name l e = absurd cc
-found (p ∷ places) name l e = by_test (bytes_eq (location_text p) name) refl e (λ f. found places name l f)
+found (p ∷ places) name l e = by_test (bytes_eq name (location_text p)) refl e (λ f. found places name l f)
   where
-    by_test : (t : Bool) → bytes_eq (location_text p) name ≡ t → cond t (Some p) (find (λ place. bytes_eq (location_text place) name) places) ≡ Some l
-        → (find (λ place. bytes_eq (location_text place) name) places ≡ Some l → location_text l ≡ name) → location_text l ≡ name
-    by_test true f g h = let same : p ≡ l = cc in subst (λ (q : DirectiveLocation). location_text q ≡ name) same ((bytes_decides (location_text p) name).0 f)
+    by_test : (t : Bool) → bytes_eq name (location_text p) ≡ t → cond t (Some p) (find (λ place. bytes_eq name (location_text place)) places) ≡ Some l
+        → (find (λ place. bytes_eq name (location_text place)) places ≡ Some l → location_text l ≡ name) → location_text l ≡ name
+    by_test true f g h = let same : p ≡ l = cc in subst (λ (q : DirectiveLocation). location_text q ≡ name) same (sym ((bytes_decides name (location_text p)).0 f))
     by_test false f g h = h g
 
 one_location : (name : Text) (names : List Text) → IsLocation name → map location_text (filter_map location_named names) ≡ names → map location_text (filter_map location_named (name ∷ names)) ≡ name ∷ names

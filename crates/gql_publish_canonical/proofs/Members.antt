@@ -1,20 +1,19 @@
 -- The members of a type in a view show those of its canonical form.
-use Rattle.std.proofs.Common.{◌≡◌, Bool, true, false, cond, List, [], ◌∷◌, ◌++◌, map, Option, Some, None, refl, sym, ap, ap₂, subst, ◌∙◌}
+use Rattle.std.proofs.Common.{◌≡◌, Bool, List, [], ◌∷◌, ◌++◌, map, refl, sym, ap, subst, ◌∙◌}
 use Rattle.std.specs.List.{AllByRecursion, AllZip}
 use Rattle.std.specs.Map.{values_of}
 use Rattle.std.proofs.lemmas.Simd.{map-map}
-use Rattle.gql_text.specs.declared.document.DirectiveUse.{DirectiveUse}
 use Rattle.gql_text.specs.declared.document.EnumValueDef.{EnumValueDef}
 use Rattle.gql_text.specs.declared.document.FieldDef.{FieldDef}
 use Rattle.gql_text.specs.declared.document.InputDef.{InputDef}
 use Rattle.gql_registry_meta.specs.Parts.{Text, Invocation, InputValue, Field, EnumValue}
-use Rattle.gql_parts.specs.Builders.{input_value_meta, arguments_meta, field_meta, subscription_field_meta, enum_item_meta}
+use Rattle.gql_parts.specs.Builders.{arguments_meta, field_meta, subscription_field_meta, enum_item_meta}
 use Rattle.gql_dynamic_types.specs.Types.{each_meta}
-use Rattle.gql_publish_document.specs.Members.{input_parts, inputs_parts, field_parts, fields_parts, subscription_field_parts, subscription_fields_parts, value_parts, values_parts, input_meta_of, field_meta_of, subscription_field_meta_of, value_meta_of}
+use Rattle.gql_publish_document.specs.Members.{inputs_parts, field_parts, fields_parts, subscription_field_parts, subscription_fields_parts, values_parts, input_meta_of, field_meta_of, subscription_field_meta_of, value_meta_of}
 use Rattle.gql_publish_document.specs.Uses.{deprecation_in, invocations_in}
 use Rattle.gql_sdl_view.specs.Options.{Options, document_choice}
 use Rattle.gql_sdl_view.specs.Ordered.{arranged, changed}
-use Rattle.gql_sdl_view.specs.View.{viewed_input_value, viewed_arguments, viewed_field, viewed_fields, viewed_value, viewed_values, viewed_inputs}
+use Rattle.gql_sdl_view.specs.View.{viewed_input_value, viewed_field, viewed_fields, viewed_value, viewed_values, viewed_inputs}
 use Rattle.gql_sdl_rows.specs.Shown.{invocation_of, deprecated_uses, ShowsUses, ShowsInput, ShowsField, ShowsValue}
 use Rattle.gql_publish_canonical.proofs.Canonical.{at_zero, member_uses, canonical_input, canonical_field, canonical_fields, canonical_value}
 use Rattle.gql_publish_canonical.proofs.Lists.{arranged_values, all_arranged, zip_maps, filter_all, anything}

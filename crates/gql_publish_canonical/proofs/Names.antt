@@ -1,5 +1,5 @@
 -- Names that do not repeat: in another order, without some of them, and with others after them.
-use Rattle.std.proofs.Common.{◌≡◌, Bool, true, false, cond, List, [], ◌∷◌, ◌++◌, filter, map, refl, sym, ap, ap₂, ◌∙◌}
+use Rattle.std.proofs.Common.{◌≡◌, Bool, true, false, cond, List, [], ◌∷◌, ◌++◌, filter, map, refl, ap, ap₂, ◌∙◌}
 use Rattle.std.specs.Prelude.{◌&&◌, ◌||◌, not, if◌then◌else◌}
 use Rattle.std.specs.List.{AllByRecursion}
 use Rattle.std.specs.Str.{bytes_eq}
@@ -91,6 +91,7 @@ filter_new {X} name test e (x ∷ xs) h =
     right_false : (b c : Bool) → (b || c) ≡ false → c ≡ false
     right_false true c g = absurd cc
     right_false false c g = g
+
     by_test : (t : Bool) → not (e (name x)) ≡ true → are_new (with_seen_name (name x) e) (map name (filter test xs)) ≡ true → are_new e (map name (cond t (x ∷ filter test xs) (filter test xs))) ≡ true
     by_test true p q = rw p q
     by_test false p q = fewer (with_seen_name (name x) e) e (λ n g. right_false (bytes_eq (name x) n) (e n) g) (map name (filter test xs)) q

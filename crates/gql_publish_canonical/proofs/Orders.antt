@@ -1,5 +1,5 @@
 -- Lists in name order: put in order again they are themselves, and what is chosen of them is in order.
-use Rattle.std.proofs.Common.{◌≡◌, Bool, true, false, cond, List, [], ◌∷◌, filter, refl, sym, ap, ap₂, ◌∙◌}
+use Rattle.std.proofs.Common.{◌≡◌, Bool, true, false, cond, List, [], ◌∷◌, filter, refl, sym, ap, ◌∙◌}
 use Rattle.std.specs.Prelude.{◌||◌, if◌then◌else◌}
 use Rattle.std.specs.Cmp.{IsStrictWeakOrder}
 use Rattle.std.specs.List.{AllByRecursion, list_any}
@@ -57,9 +57,11 @@ module _ {X : Type 0} (before : X → X → Bool) (order : IsStrictWeakOrder bef
       passing true false fs e = refl
       passing false true fs e = refl
       passing false false fs e = refl
+
       standing : (p : Bool) (fs : List X) → IsLeast x fs → cond p (x ∷ fs) fs ≡ cond p (placed before x fs) fs
       standing true fs l = sym (placed_least x fs l)
       standing false fs l = refl
+
       by_tests : (t : Bool) → before y x ≡ t → filter test (placed before x ys) ≡ cond (test x) (placed before x (filter test ys)) (filter test ys)
           → filter test (if t then y ∷ placed before x ys else x ∷ y ∷ ys) ≡ cond (test x) (placed before x (filter test (y ∷ ys))) (filter test (y ∷ ys))
       by_tests true e h = ap (λ (l : List X). cond (test y) (y ∷ l) l) h ∙ passing (test x) (test y) (filter test ys) e

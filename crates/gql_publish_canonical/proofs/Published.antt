@@ -1,10 +1,10 @@
 -- The text of the view of a document is that of a document again: of its canonical form, apart from places.
-use Rattle.std.proofs.Common.{◌≡◌, Bool, true, false, cond, List, [], ◌∷◌, ◌++◌, filter, map, Option, Some, None, refl, sym, ap, subst, ◌∙◌, ℕ, zero, suc}
+use Rattle.std.proofs.Common.{◌≡◌, Bool, true, false, cond, List, [], ◌∷◌, ◌++◌, filter, Option, Some, None, refl, ℕ, zero, suc}
 use Rattle.std.specs.Prelude.{if◌then◌else◌, ◌||◌, replicate}
 use Rattle.std.specs.List.{AllByRecursion, find, list_any}
 use Rattle.std.specs.Option.{is_some, option_map, unwrap_or}
 use Rattle.std.specs.Str.{IsUtf8}
-use Rattle.gql_text_lexer.specs.Bytes.{space, tab, is_blank}
+use Rattle.gql_text_lexer.specs.Bytes.{space, tab}
 use Rattle.gql_text_lexer.specs.Forms.{IsName}
 use Rattle.gql_text_syntax.specs.declared.operation.OperationType.{OperationType}
 use Rattle.gql_text_syntax.specs.declared.operation.OperationType.TheVariants.{Query, Mutation, Subscription}
@@ -22,12 +22,12 @@ use Rattle.gql_sdl_readback.proofs.Lists.{AreBlank}
 use Rattle.gql_sdl_view.specs.Options.{Options, document_choice, indent_of, layout_of}
 use Rattle.gql_sdl_view.specs.Spelling.{spell}
 use Rattle.gql_sdl_rows.specs.Faultless.{has_query}
-use Rattle.gql_sdl_rows.specs.Shown.{root_line, optional_line, directive_definitions}
+use Rattle.gql_sdl_rows.specs.Shown.{optional_line, directive_definitions}
 use Rattle.gql_sdl_rows.proofs.Documents.{AreSound}
 use Rattle.gql_sdl_rows.proofs.Parts.{IsSoundDirective, IsSoundDefinition}
 use Rattle.gql_sdl_rows.proofs.ReadAgain.{IsReadAs, view_says, document_is}
 use Rattle.gql_sdl_view.specs.View.{is_needed}
-use Rattle.gql_publish_canonical.proofs.Canonical.{canonical_type, type_of, is_type, ordered_definitions, canonical_types, canonical_directive, ordered_directive_definitions, canonical_directives, canonical_roots, canonical}
+use Rattle.gql_publish_canonical.proofs.Canonical.{type_of, is_type, ordered_definitions, canonical_types, canonical_directive, ordered_directive_definitions, canonical_directives, canonical_roots, canonical}
 use Rattle.gql_publish_canonical.proofs.FaultlessCanonical.{parts_faultless, canonical_faultless}
 use Rattle.gql_publish_canonical.proofs.Lists.{all_arranged, all_filter, all_append, all_map}
 use Rattle.gql_publish_canonical.proofs.Shown.{document_shows}

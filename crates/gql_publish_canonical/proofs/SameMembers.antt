@@ -1,18 +1,16 @@
 -- The members of a canonical form have the same views as those of the document.
-use Rattle.std.proofs.Common.{◌≡◌, Bool, true, false, cond, List, [], ◌∷◌, ◌++◌, filter, map, Option, Some, None, codes, refl, sym, ap, ap₂, subst, ◌∙◌, rules}
-use Rattle.std.proofs.lemmas.List.{append-nil, map-append}
-use Rattle.std.proofs.lemmas.Simd.{map-map}
-use Rattle.std.specs.Prelude.{not, ◌||◌}
+use Rattle.std.proofs.Common.{◌≡◌, Bool, true, false, cond, List, [], ◌∷◌, ◌++◌, filter, map, Option, Some, None, codes, refl, sym, ap, ◌∙◌, rules}
+use Rattle.std.proofs.lemmas.List.{map-append}
+use Rattle.std.specs.Prelude.{◌||◌}
 use Rattle.std.specs.Cmp.Lexicographic.{bytes_decides}
 use Rattle.std.specs.List.{find, list_any}
 use Rattle.std.specs.Str.{bytes_eq}
-use Rattle.gql_text_values.specs.declared.const_value.ConstValue.{ConstValue, out-ConstValue}
 use Rattle.gql_text_values.specs.declared.const_value.ConstValue.TheFolds.{the_lemmas}
 use Rattle.gql_text_values.specs.declared.const_value.ConstValue.TheVariants as values
 use Rattle.gql_text.specs.Owners.{deprecated, specified_by, one_of, is_attribute}
 use Rattle.gql_text.specs.declared.document.DirectiveUse.{DirectiveUse}
 use Rattle.gql_registry_meta.specs.Parts.{Text, Deprecated, not_deprecated, deprecated_for, Invocation}
-use Rattle.gql_publish_document.specs.Uses.{string_layer, first_string, is_use_of, deprecation_by, deprecation_in, url_by, url_in, has_one_of, invocation, is_custom, invocations_in}
+use Rattle.gql_publish_document.specs.Uses.{first_string, is_use_of, deprecation_by, deprecation_in, url_by, url_in, has_one_of, invocation, is_custom, invocations_in}
 use Rattle.gql_sdl_rows.specs.Shown.{deprecated_uses, url_uses, one_of_uses}
 use Rattle.gql_publish_canonical.proofs.Canonical.{at_zero, member_uses}
 
@@ -29,6 +27,7 @@ none_custom name a (u ∷ us) = by_test (is_attribute u.name) refl (none_custom 
     other : (t : Bool) → is_attribute u.name ≡ false → bytes_eq u.name name ≡ t → t ≡ false
     other true e f = let same : true ≡ false = sym a ∙ ap is_attribute (sym ((bytes_decides u.name name).0 f)) ∙ e in absurd cc
     other false e f = refl
+
     by_test : (t : Bool) → is_attribute u.name ≡ t → find (is_use_of name) (map at_zero (invocations_in us)) ≡ None → find (is_use_of name) (map at_zero (invocations_in (u ∷ us))) ≡ None
     by_test true e f = rw e f
     by_test false e f = rw (e, other (bytes_eq u.name name) e refl) f
@@ -54,6 +53,7 @@ none_any name a us = not_found (map at_zero (invocations_in us)) (none_custom na
     step : (t b : Bool) (x : DirectiveUse) (rest : Option DirectiveUse) → cond t (Some x) rest ≡ None → (rest ≡ None → b ≡ false) → (t || b) ≡ false
     step true b x rest e h = absurd cc
     step false b x rest e h = h e
+
     not_found : (xs : List DirectiveUse) → find (is_use_of name) xs ≡ None → list_any (is_use_of name) xs ≡ false
     not_found [] e = refl
     not_found (x ∷ xs) e = step (is_use_of name x) (list_any (is_use_of name) xs) x (find (is_use_of name) xs) e (λ f. not_found xs f)
@@ -73,7 +73,7 @@ custom_again (u ∷ us) = by_test (is_attribute u.name) refl (custom_again us)
     by_test true e f = rw e f
     by_test false e f = rw (e, e) (ap (λ (l : List Invocation). invocation u ∷ l) f)
 
-filter_append : {X : Type 0} (test : X → Bool) (xs ys : List X) → filter test (xs ++ ys) ≡ filter test xs ++ filter test ys
+pub filter_append : {X : Type 0} (test : X → Bool) (xs ys : List X) → filter test (xs ++ ys) ≡ filter test xs ++ filter test ys
 filter_append test [] ys = refl
 filter_append {X} test (x ∷ xs) ys = by_test (test x) (filter_append test xs ys)
   where

@@ -1,13 +1,9 @@
 -- The types of a canonical form have the same views as those of the document.
-use Rattle.std.proofs.Common.{◌≡◌, Bool, true, false, cond, List, [], ◌∷◌, ◌++◌, filter, map, Option, Some, None, codes, refl, sym, ap, ap₂, subst, ◌∙◌}
-use Rattle.std.proofs.lemmas.Simd.{map-map}
-use Rattle.std.specs.Prelude.{◌&&◌, not}
+use Rattle.std.proofs.Common.{◌≡◌, Bool, true, false, cond, List, [], ◌∷◌, ◌++◌, map, Option, Some, None, codes, refl, sym, ap, ap₂, ◌∙◌}
+use Rattle.std.specs.Prelude.{◌&&◌}
 use Rattle.std.specs.Cmp.Lexicographic.{bytes_decides}
-use Rattle.std.specs.List.{AllByRecursion, list_any}
-use Rattle.std.specs.Map.{values_of}
 use Rattle.std.specs.Option.{is_none}
 use Rattle.std.specs.Str.{bytes_eq}
-use Rattle.gql_text_values.specs.ConstValues.{value_text}
 use Rattle.gql_text_values.specs.TypeRefs.{type_text}
 use Rattle.gql_text.specs.declared.document.Definition.{Definition}
 use Rattle.gql_text.specs.declared.document.Definition.TheVariants as definition
@@ -16,22 +12,22 @@ use Rattle.gql_text.specs.declared.document.EnumValueDef.{EnumValueDef}
 use Rattle.gql_text.specs.declared.document.FieldDef.{FieldDef}
 use Rattle.gql_text.specs.declared.document.InputDef.{InputDef}
 use Rattle.gql_text.specs.declared.document.TypeHead.{TypeHead}
-use Rattle.gql_registry_meta.specs.Parts.{Text, Deprecated, Invocation, InputValue, Field, EnumValue, ObjectType, InterfaceType, EnumType, InputObjectType, Meta, object, interface, enum, input_object, is_empty, is_deprecated}
+use Rattle.gql_registry_meta.specs.Parts.{Text, Deprecated, Invocation, InputValue, Field, EnumValue, Meta, is_empty}
 use Rattle.gql_registry.specs.Plain.{plain_field, plain_value}
 use Rattle.gql_parts.specs.Builders.{InputValueParts, FieldParts, SubscriptionFieldParts, EnumItemParts, new_input_value, input_value_meta, arguments_meta, field_meta, subscription_field_meta, enum_item_meta}
 use Rattle.gql_dynamic_types.specs.Types.{each_meta, new_scalar, scalar_meta, new_object, object_meta, new_interface, interface_meta, new_union, union_meta, new_enum, enum_meta, new_input_object, input_object_meta, subscription_meta}
 use Rattle.gql_dynamic.specs.SchemaTypes.{TypeParts, upload, type_name, type_meta, interfaces}
-use Rattle.gql_publish_document.specs.Members.{input_parts, inputs_parts, field_parts, fields_parts, subscription_field_parts, subscription_fields_parts, values_parts, input_meta_of, field_meta_of, subscription_field_meta_of, value_meta_of}
-use Rattle.gql_publish_document.specs.Types.{is_upload, scalar_parts, object_parts, subscription_parts, is_root, type_in}
+use Rattle.gql_publish_document.specs.Members.{inputs_parts, fields_parts, subscription_fields_parts, values_parts, field_meta_of, subscription_field_meta_of}
+use Rattle.gql_publish_document.specs.Types.{is_upload, scalar_parts, object_parts, subscription_parts, is_root}
 use Rattle.gql_publish_document.specs.Uses.{deprecation_in, url_in, has_one_of, invocations_in}
 use Rattle.gql_sdl_view.specs.Options.{Options, Choice, document_choice}
 use Rattle.gql_sdl_view.specs.Ordered.{arranged, changed}
-use Rattle.gql_sdl_view.specs.View.{viewed_input_value, viewed_arguments, viewed_field, viewed_fields, viewed_value, viewed_values, viewed_inputs, viewed_type, has_deprecated, has_url, has_one_of as has_mark}
+use Rattle.gql_sdl_view.specs.View.{viewed_input_value, viewed_fields, viewed_values, viewed_inputs, viewed_type}
 use Rattle.gql_sdl_rows.specs.Shown.{url_uses, one_of_uses}
-use Rattle.gql_publish_canonical.proofs.Canonical.{at_zero, member_uses, canonical_input, canonical_field, canonical_fields, canonical_value, canonical_head, with_uses, canonical_type, type_of}
-use Rattle.gql_publish_canonical.proofs.Lists.{arranged_map, filter_all}
+use Rattle.gql_publish_canonical.proofs.Canonical.{at_zero, canonical_input, canonical_field, canonical_fields, canonical_value, canonical_head, with_uses, canonical_type, type_of}
+use Rattle.gql_publish_canonical.proofs.Lists.{arranged_map}
 use Rattle.gql_publish_canonical.proofs.Members.{input_entry, input_entries, field_entry, plain_entry, field_entries, plain_fields, plain_root_fields, value_entry, value_entries}
-use Rattle.gql_publish_canonical.proofs.Orders.{again, any_arranged}
+use Rattle.gql_publish_canonical.proofs.Orders.{again}
 use Rattle.gql_publish_canonical.proofs.SameMembers.{deprecation_stays, url_stays, one_of_stays, member_stays, scalar_stays, input_stays, head_stays}
 
 -- ---- lists of members
@@ -46,8 +42,10 @@ resorted {X} {M} change entry name by t named is same xs =
     each : (ys : List X) → map entry (map change ys) ≡ map entry ys
     each [] = refl
     each (y ∷ ys) = ap₂ (λ (e : Text × M) (l : List (Text × M)). e ∷ l) (same y) (each ys)
+
     by_names : (n : X → Text) → n ≡ name → arranged n t xs ≡ arranged name t xs
     by_names n e = ap (λ (m : X → Text). arranged m t xs) e
+
     entries : (ys : List X) → arranged by t (map entry ys) ≡ map entry (arranged name t ys)
     entries ys = arranged_map entry by t ys ∙ ap (λ (m : X → Text). map entry (arranged m t ys)) (λ i x. is x i)
 
@@ -126,12 +124,15 @@ scalar_meta_is head true e = upload_meta head.name head.description head.uses (b
     both : (a b : Bool) → (a && b) ≡ true → (a ≡ true) × (b ≡ true)
     both true b e = (refl, e)
     both false b e = absurd cc
+
     no_text : (o : Option Text) → is_none o ≡ true → o ≡ None
     no_text None e = refl
     no_text (Some text) e = absurd cc
+
     nothing : (us : List DirectiveUse) → is_empty us ≡ true → us ≡ []
     nothing [] e = refl
     nothing (u ∷ us) e = absurd cc
+
     upload_meta : (name : Text) (description : Option Text) (uses : List DirectiveUse) → (bytes_eq name (codes "Upload") ≡ true) × ((is_none description && is_empty uses) ≡ true)
         → type_meta upload ≡ type_meta (scalar_parts (record { name = name; description = description; uses = uses; at = 0 }))
     upload_meta name description uses h =
@@ -153,7 +154,7 @@ scalar_same : (o : Options) (root : Option Text) (head : TypeHead) → IsSame o 
 scalar_same o root head =
     ap (viewed_type (document_choice o) root) (scalar_is root (with_uses (url_uses (url_in head.uses) ++ invocations_in head.uses) head))
     ∙ ap₂ (λ (url : Option Text) (us : List Invocation). viewed_type (document_choice o) root (scalar_meta (record (new_scalar head.name) { description = head.description; specified_by_url = url; directives = us })))
-      (url_stays head.uses) (scalar_stays head.uses)
+    (url_stays head.uses) (scalar_stays head.uses)
     ∙ ap (viewed_type (document_choice o) root) (sym (scalar_is root head))
 
 -- types with the same views of their parts
@@ -165,30 +166,30 @@ root_views o root name description fs gs e = rw e refl
 object_views : (o : Options) (root : Option Text) (name : Text) (description : Option Text) (implements : List Text) (fs gs : List (Text × FieldParts)) (us vs : List Invocation)
     → viewed_fields (document_choice o) (each_meta field_meta fs) ≡ viewed_fields (document_choice o) (each_meta field_meta gs) → us ≡ vs
     → viewed_type (document_choice o) root (object_meta (record (new_object name) { description = description; fields = fs; implements = implements; directives = us }))
-      ≡ viewed_type (document_choice o) root (object_meta (record (new_object name) { description = description; fields = gs; implements = implements; directives = vs }))
+    ≡ viewed_type (document_choice o) root (object_meta (record (new_object name) { description = description; fields = gs; implements = implements; directives = vs }))
 object_views o root name description implements fs gs us vs e f = rw (e, f) refl
 
 interface_views : (o : Options) (root : Option Text) (name : Text) (description : Option Text) (implements : List Text) (fs gs : List (Text × FieldParts)) (us vs : List Invocation)
     → viewed_fields (document_choice o) (each_meta field_meta fs) ≡ viewed_fields (document_choice o) (each_meta field_meta gs) → us ≡ vs
     → viewed_type (document_choice o) root (interface_meta (record (new_interface name) { description = description; fields = fs; implements = implements; directives = us }))
-      ≡ viewed_type (document_choice o) root (interface_meta (record (new_interface name) { description = description; fields = gs; implements = implements; directives = vs }))
+    ≡ viewed_type (document_choice o) root (interface_meta (record (new_interface name) { description = description; fields = gs; implements = implements; directives = vs }))
 interface_views o root name description implements fs gs us vs e f = rw (e, f) refl
 
 enum_views : (o : Options) (root : Option Text) (name : Text) (description : Option Text) (is js : List (Text × EnumItemParts)) (us vs : List Invocation)
     → viewed_values (document_choice o) (each_meta enum_item_meta is) ≡ viewed_values (document_choice o) (each_meta enum_item_meta js) → us ≡ vs
     → viewed_type (document_choice o) root (enum_meta (record (new_enum name) { description = description; items = is; directives = us }))
-      ≡ viewed_type (document_choice o) root (enum_meta (record (new_enum name) { description = description; items = js; directives = vs }))
+    ≡ viewed_type (document_choice o) root (enum_meta (record (new_enum name) { description = description; items = js; directives = vs }))
 enum_views o root name description is js us vs e f = rw (e, f) refl
 
 input_object_views : (o : Options) (root : Option Text) (name : Text) (description : Option Text) (is js : List (Text × InputValueParts)) (m n : Bool) (us vs : List Invocation)
     → viewed_inputs (document_choice o) (each_meta input_value_meta is) ≡ viewed_inputs (document_choice o) (each_meta input_value_meta js) → m ≡ n → us ≡ vs
     → viewed_type (document_choice o) root (input_object_meta (record (new_input_object name) { description = description; fields = is; oneof = m; directives = us }))
-      ≡ viewed_type (document_choice o) root (input_object_meta (record (new_input_object name) { description = description; fields = js; oneof = n; directives = vs }))
+    ≡ viewed_type (document_choice o) root (input_object_meta (record (new_input_object name) { description = description; fields = js; oneof = n; directives = vs }))
 input_object_views o root name description is js m n us vs e f g = rw (e, f, g) refl
 
 object_same : (o : Options) (root : Option Text) (head : TypeHead) (implements : List Text) (fields : List FieldDef) (t : Bool)
     → view_in o root (cond t (subscription_parts (canonical_head head) (canonical_fields (document_choice o) fields)) (object_parts (canonical_head head) implements (canonical_fields (document_choice o) fields)))
-      ≡ view_in o root (cond t (subscription_parts head fields) (object_parts head implements fields))
+    ≡ view_in o root (cond t (subscription_parts head fields) (object_parts head implements fields))
 object_same o root head implements fields true = root_views o root head.name head.description (subscription_fields_parts (canonical_fields (document_choice o) fields)) (subscription_fields_parts fields) (all_root_fields_same o fields)
 object_same o root head implements fields false =
     object_views o root head.name head.description implements (fields_parts (canonical_fields (document_choice o) fields)) (fields_parts fields) (invocations_in (map at_zero (invocations_in head.uses))) (invocations_in head.uses)

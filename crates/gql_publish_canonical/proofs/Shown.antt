@@ -1,6 +1,6 @@
 -- The view of a document shows the canonical form of the document.
-use Rattle.std.proofs.Common.{◌≡◌, Bool, true, List, ◌∷◌, ◌++◌, map, Option, Some, None, refl, ap}
-use Rattle.std.specs.List.{AllByRecursion, list_all}
+use Rattle.std.proofs.Common.{◌≡◌, true, List, ◌∷◌, ◌++◌, map, Option, Some, None, refl, ap}
+use Rattle.std.specs.List.{list_all}
 use Rattle.gql_text_syntax.specs.declared.operation.OperationType.TheVariants.{Query, Mutation, Subscription}
 use Rattle.gql_text.specs.Roots.{root_of}
 use Rattle.gql_text.specs.declared.document.Document.{Document}

@@ -1,8 +1,7 @@
 -- The canonical form of a document whose definitions are sound has sound definitions.
-use Rattle.std.proofs.Common.{◌≡◌, ℕ, Bool, true, false, cond, List, [], ◌∷◌, ◌++◌, filter, map, Option, Some, None, codes, refl, sym, ap, subst, ◌∙◌, inl, rules}
-use Rattle.std.specs.Prelude.{◌&&◌, ◌||◌, not}
-use Rattle.std.specs.List.{AllByRecursion, filter_map, find, list_any}
-use Rattle.std.specs.Option.{option_map, unwrap_or}
+use Rattle.std.proofs.Common.{◌≡◌, Bool, true, false, cond, List, [], ◌∷◌, ◌++◌, filter, map, Option, Some, None, codes, refl, subst, inl, rules}
+use Rattle.std.specs.List.{AllByRecursion, find, list_any}
+use Rattle.std.specs.Option.{option_map}
 use Rattle.gql_grammar.specs.Form.{Terminal}
 use Rattle.gql_text_lexer.specs.Forms.{IsName}
 use Rattle.gql_text_syntax.specs.Grammar as g
@@ -11,12 +10,9 @@ use Rattle.gql_text_syntax.specs.Types.{named, plain_with, type_with, type_of as
 use Rattle.gql_text_syntax.specs.declared.operation.OperationType.{OperationType}
 use Rattle.gql_text_syntax.specs.declared.operation.OperationType.TheVariants.{Query, Mutation, Subscription}
 use Rattle.gql_text_syntax.specs.declared.sort.Sort.TheVariants.{Bang, OtherName}
-use Rattle.gql_text_syntax.specs.declared.syntax.TypeTree.{TypeTree}
 use Rattle.gql_text_syntax.specs.declared.syntax.TypeTree.TheFolds.{the_lemmas}
 use Rattle.gql_text_syntax.specs.declared.syntax.TypeTree.TheVariants as trees
-use Rattle.gql_text_values.specs.declared.const_value.ConstValue.{ConstValue}
 use Rattle.gql_text_values.specs.declared.const_value.ConstValue.TheVariants as values
-use Rattle.gql_text_values.specs.declared.type_ref.TypeRef.{TypeRef}
 use Rattle.gql_text_values.specs.declared.type_ref.TypeRef.TheVariants as refs
 use Rattle.gql_text.specs.Roots.{default_root, default_name, defines, is_schema, lines_of, root_by, root_line, root_of, same_operation}
 use Rattle.gql_text.specs.declared.document.Definition.{Definition}
@@ -37,13 +33,13 @@ use Rattle.gql_publish_document.specs.Uses.{deprecation_in, url_in, has_one_of, 
 use Rattle.gql_sdl_readback.proofs.Keeps.{AllIn}
 use Rattle.gql_sdl_readback.proofs.Sound.{string, leaf, IsSound}
 use Rattle.gql_sdl_readback.proofs.Texts.{FitsSort, Spelled}
-use Rattle.gql_sdl_view.specs.Options.{Options, Choice, document_choice}
+use Rattle.gql_sdl_view.specs.Options.{Choice}
 use Rattle.gql_sdl_view.specs.Ordered.{arranged}
 use Rattle.gql_sdl_rows.specs.Shown.{invocation_of, deprecated_uses, url_uses, one_of_uses}
 use Rattle.gql_sdl_rows.proofs.Documents.{AreSound}
 use Rattle.gql_sdl_rows.proofs.Joined.{location_is}
-use Rattle.gql_sdl_rows.proofs.Parts.{HasItem, IsSoundType, IsSoundArgument, IsSoundInvocation, AreSoundInvocations, AreSoundUses, IsSoundInput, IsSoundField, IsSoundValue, IsSoundHead, IsLocation, IsSoundDirective, IsSoundDefinition}
-use Rattle.gql_publish_canonical.proofs.Canonical.{at_zero, member_uses, canonical_input, canonical_argument, canonical_field, canonical_value, with_uses, canonical_type, canonical_directive, skip_definition, include_definition, deprecated_definition, specified_by_definition, one_of_definition, system_definitions, own_directives, is_missing, ordered_directive_definitions}
+use Rattle.gql_sdl_rows.proofs.Parts.{IsSoundType, IsSoundInvocation, AreSoundInvocations, AreSoundUses, IsSoundInput, IsSoundField, IsSoundValue, IsSoundHead, IsLocation, IsSoundDirective, IsSoundDefinition}
+use Rattle.gql_publish_canonical.proofs.Canonical.{at_zero, canonical_input, canonical_argument, canonical_field, canonical_value, with_uses, canonical_type, canonical_directive, skip_definition, include_definition, deprecated_definition, specified_by_definition, one_of_definition, system_definitions, own_directives, is_missing, ordered_directive_definitions}
 use Rattle.gql_publish_canonical.proofs.Lists.{all_arranged, all_filter, all_append, all_map}
 
 -- ---- uses

@@ -1,10 +1,9 @@
 -- The types of the view of a document show those of its canonical form.
 use Rattle.std.proofs.Common.{◌≡◌, Bool, true, false, cond, List, [], ◌∷◌, ◌++◌, filter, map, Option, Some, None, codes, refl, sym, ap, ap₂, subst, ◌∙◌}
-use Rattle.std.specs.Prelude.{◌&&◌, not}
+use Rattle.std.specs.Prelude.{◌&&◌}
 use Rattle.std.specs.Cmp.Lexicographic.{bytes_decides}
 use Rattle.std.specs.List.{AllByRecursion, filter_map, list_all}
-use Rattle.std.specs.Map.{values_of}
-use Rattle.std.specs.Option.{is_none, is_some, unwrap_or}
+use Rattle.std.specs.Option.{is_none, unwrap_or}
 use Rattle.std.specs.Str.{bytes_eq}
 use Rattle.gql_text.specs.Owners.{is_attribute}
 use Rattle.gql_text.specs.WrittenRoots as w
@@ -13,7 +12,7 @@ use Rattle.gql_text.specs.declared.document.Definition.TheVariants as definition
 use Rattle.gql_text.specs.declared.document.DirectiveUse.{DirectiveUse}
 use Rattle.gql_text.specs.declared.document.FieldDef.{FieldDef}
 use Rattle.gql_text.specs.declared.document.TypeHead.{TypeHead}
-use Rattle.gql_registry_meta.specs.Parts.{Text, Invocation, Meta, is_empty}
+use Rattle.gql_registry_meta.specs.Parts.{Text, Invocation, is_empty}
 use Rattle.gql_dynamic.specs.SchemaTypes.{TypeParts, upload, type_name, type_meta, interfaces}
 use Rattle.gql_publish_document.specs.Types.{is_upload, scalar_parts, object_parts, subscription_parts, is_root, type_in}
 use Rattle.gql_publish_document.specs.Uses.{url_in, has_one_of, invocations_in}
@@ -21,8 +20,8 @@ use Rattle.gql_sdl_view.specs.Options.{Options, document_choice}
 use Rattle.gql_sdl_view.specs.Ordered.{arranged}
 use Rattle.gql_sdl_view.specs.View.{viewed_type}
 use Rattle.gql_sdl_rows.specs.Faultless.{is_faultless, is_faultless_like, is_faultless_root, are_attributes}
-use Rattle.gql_sdl_rows.specs.Shown.{url_uses, one_of_uses, ShowsUses, ShowsType, shows_scalar, shows_object, shows_interface, shows_union, shows_enum, shows_input, ShowsTypes}
-use Rattle.gql_publish_canonical.proofs.Canonical.{at_zero, canonical_head, with_uses, canonical_fields, canonical_type, type_of, is_type, ordered_definitions, canonical_types}
+use Rattle.gql_sdl_rows.specs.Shown.{url_uses, one_of_uses, ShowsType, shows_scalar, shows_object, shows_interface, shows_union, shows_enum, shows_input, ShowsTypes}
+use Rattle.gql_publish_canonical.proofs.Canonical.{canonical_type, type_of, is_type, ordered_definitions, canonical_types}
 use Rattle.gql_publish_canonical.proofs.Lists.{arranged_map, all_arranged}
 use Rattle.gql_publish_canonical.proofs.Members.{shows_uses, input_fields_show, fields_show, HasNoUses, root_fields_show, values_show}
 
@@ -124,7 +123,7 @@ object_shows o root head implements fields true p =
     shows_object _ _ _ _ (record { name_is = refl; description_is = refl; uses = shows_uses (invocations_in head.uses) ∙ plain.uses_none }) (sym plain.implements_none) (root_fields_show o fields plain.fields_none)
 object_shows o root head implements fields false p = shows_object _ _ _ _ (record { name_is = refl; description_is = refl; uses = shows_uses (invocations_in head.uses) }) refl (fields_show o fields)
 
-type_shows : (o : Options) (root : Option Text) (d : Definition) → IsType root d → ShowsIn o root (type_of root d) d
+pub type_shows : (o : Options) (root : Option Text) (d : Definition) → IsType root d → ShowsIn o root (type_of root d) d
 type_shows o root (definition.SchemaBlock roots at) h = absurd h
 type_shows o root (definition.Scalar head) h = scalar_shows o root head (is_upload head) refl
 type_shows o root (definition.Object head implements fields) h = object_shows o root head implements fields (is_root root head.name) h
@@ -142,7 +141,7 @@ each_shows : (o : Options) (root : Option Text) (ds : List Definition) → AllBy
 each_shows o root [] a = tt
 each_shows o root (d ∷ ds) a = (type_shows o root d a.0, each_shows o root ds a.1)
 
-types_are : (root : Option Text) (ds : List Definition) → filter_map (type_in root) ds ≡ map (type_of root) (filter (is_type root) ds)
+pub types_are : (root : Option Text) (ds : List Definition) → filter_map (type_in root) ds ≡ map (type_of root) (filter (is_type root) ds)
 types_are root [] = refl
 types_are root (d ∷ ds) = by_type (type_in root d) refl (types_are root ds)
   where
@@ -158,7 +157,7 @@ ordered_are root ds = ap (arranged type_name true) (types_are root ds) ∙ arran
 
 pub types_show : (o : Options) (root : Option Text) (ds : List Definition) → list_all (is_faultless root) ds ≡ true
     → ShowsTypes (map (viewed_type (document_choice o) root) (map type_meta (arranged type_name true (filter_map (type_in root) ds)))) (map interfaces (arranged type_name true (filter_map (type_in root) ds)))
-      (canonical_types (document_choice o) root ds)
+    (canonical_types (document_choice o) root ds)
 types_show o root ds e =
     let cs : List Definition = ordered_definitions root ds in
     let all = all_arranged (IsType root) (λ (d : Definition). type_name (type_of root d)) true (filter (is_type root) ds) (all_types root ds e) in
