@@ -18,14 +18,15 @@ use Rattle.gql_text_syntax.specs.declared.syntax.Kind.{Kind}
 use Rattle.gql_text_syntax.specs.declared.syntax.Kind.TheVariants as kind
 use Rattle.gql_text_syntax.specs.declared.syntax.WrittenDefinition.{WrittenDefinition}
 use Rattle.gql_text.specs.DocumentOf.{argument_of, use_of, input_of, field_def_of, enum_value_of, bare_names_of, implements_of, head_of, kind_of, definition_of, document_of}
-use Rattle.gql_text.specs.Owners.{Names, no_names, with_seen_name, repeated, duplicates, use_faults, argument_faults, attribute_faults, uses_faults, default_faults, input_faults, inputs_faults, field_faults, fields_faults, enum_value_faults, enum_values_faults, implements_faults, reserved, object_like_faults, subscription_faults, head_faults, kind_faults, definition_faults, type_key, type_name_faults, directive_name_faults, second_schemas, query_faults, owner_faults, value_faults}
+use Rattle.gql_text.specs.Owners.{Names, no_names, with_seen_name, repeated, duplicates, use_faults, argument_faults, attribute_faults, uses_faults, default_faults, input_faults, inputs_faults, field_faults, fields_faults, enum_value_faults, enum_values_faults, implements_faults, reserved, object_like_faults, subscription_faults, head_faults, kind_faults, definition_faults, type_key, directive_key, type_name_faults, directive_name_faults, second_schemas, query_faults, owner_faults, value_faults}
 use Rattle.gql_text.specs.WrittenRoots.{first_schema, is_root as is_written_root}
 use Rattle.gql_text.specs.Roots.{root_of}
 use Rattle.gql_text.specs.declared.document.TypeHead.{TypeHead}
 use Rattle.gql_text.specs.declared.document.FieldDef.{FieldDef}
-use Rattle.gql_registry_meta.specs.Parts.{Text}
+use Rattle.gql_text_lexer.specs.Forms.{is_reserved}
+use Rattle.gql_registry_meta.specs.Parts.{Text, Directive}
 use Rattle.gql_dynamic.specs.SchemaTypes.{TypeParts, type_name, upload}
-use Rattle.gql_publish_document.specs.Types.{type_in, is_upload, scalar_parts, object_parts, subscription_parts, is_root}
+use Rattle.gql_publish_document.specs.Types.{type_in, directive_in, is_upload, scalar_parts, object_parts, subscription_parts, is_root}
 use Rattle.gql_publish_document.specs.Clean.{AreDistinct, IsCleanUse, AreCleanUses, IsCleanInput, AreCleanInputs, IsCleanField, AreCleanFields, IsCleanValue, AreCleanValues, IsCleanDefinition, IsClean}
 
 -- ---- lists without a fault
@@ -221,6 +222,69 @@ type_names root (d ∷ ds) =
     ∙ one_name root d.description d.kind (map type_name (filter_map (type_in root) (map definition_of ds)))
     ∙ sym (types_more (type_in root (definition_of d)) (filter_map (type_in root) (map definition_of ds)))
 
+-- ---- names of directives
+
+directives_by : Option Directive → List Text → List Text
+directives_by None names = names
+directives_by (Some directive) names = directive.name ∷ names
+
+one_directive : (d : Option Description) (k : Kind) (names : List Text) → names_by (directive_key k) names ≡ directives_by (directive_in (kind_of d k)) names
+unfolding directives_by
+one_directive d (kind.Schema at uses roots) names = refl
+one_directive d (kind.Scalar key uses) names = refl
+one_directive d (kind.Object o) names = refl
+one_directive d (kind.Interface o) names = refl
+one_directive d (kind.Union key uses members) names = refl
+one_directive d (kind.Enum key uses values) names = refl
+one_directive d (kind.Input key uses fields) names = refl
+one_directive d (kind.Directive key arguments repeatable locations) names = refl
+
+directives_more : (directive : Option Directive) (directives : List Directive) → map (λ x. x.name) (cons_option directive directives) ≡ directives_by directive (map (λ x. x.name) directives)
+unfolding directives_by
+directives_more None directives = refl
+directives_more (Some directive) directives = refl
+
+directive_names : (ds : List WrittenDefinition) → names_in (filter_map (λ d. directive_key d.kind) ds) ≡ map (λ x. x.name) (filter_map directive_in (map definition_of ds))
+unfolding names_in
+directive_names [] = refl
+directive_names (d ∷ ds) =
+    keys_more (directive_key d.kind) (filter_map (λ d. directive_key d.kind) ds)
+    ∙ ap (names_by (directive_key d.kind)) (directive_names ds)
+    ∙ one_directive d.description d.kind (map (λ x. x.name) (filter_map directive_in (map definition_of ds)))
+    ∙ sym (directives_more (directive_in (definition_of d)) (filter_map directive_in (map definition_of ds)))
+
+-- ---- reserved names
+
+abbrev IsFree : Text → Type 0
+IsFree name = is_reserved name ≡ false
+
+free_key : (key : PlacedName) → reserved key ≡ [] → IsFree key.name
+free_key key e = no_fault (is_reserved key.name) _ e
+
+free_kind : (root : Option Text) (d : Option Description) (k : Kind) (names : List Text) → kind_faults root d k ≡ [] → AllByRecursion IsFree names → AllByRecursion IsFree (names_by (type_key k) names)
+free_kind root d (kind.Schema at uses roots) names e h = h
+free_kind root d (kind.Scalar key uses) names e h = (free_key key (none_both (reserved key) _ e).0, h)
+free_kind root d (kind.Object o) names e h =
+    let like = (none_both (object_like_faults o) (cond (is_written_root root o.key.name) (subscription_faults o) []) e).0 in
+    (free_key o.key (none_both (reserved o.key) _ like).0, h)
+free_kind root d (kind.Interface o) names e h = (free_key o.key (none_both (reserved o.key) _ e).0, h)
+free_kind root d (kind.Union key uses members) names e h =
+    let head = (none_both (reserved key ++ _) (duplicates no_names members) e).0 in
+    (free_key key (none_both (reserved key) _ head).0, h)
+free_kind root d (kind.Enum key uses values) names e h =
+    let head = (none_both (reserved key ++ _) (enum_values_faults values) e).0 in
+    (free_key key (none_both (reserved key) _ head).0, h)
+free_kind root d (kind.Input key uses fields) names e h =
+    let head = (none_both (reserved key ++ _) (inputs_faults fields) e).0 in
+    (free_key key (none_both (reserved key) _ head).0, h)
+free_kind root d (kind.Directive key arguments repeatable locations) names e h = h
+
+free_names : (root : Option Text) (ds : List WrittenDefinition) → AllByRecursion (λ d. definition_faults root d ≡ []) ds → AllByRecursion IsFree (names_in (filter_map (λ d. type_key d.kind) ds))
+unfolding names_in
+free_names root [] h = tt
+free_names root (d ∷ ds) h =
+    subst (AllByRecursion IsFree) (sym (keys_more (type_key d.kind) (filter_map (λ d. type_key d.kind) ds))) (free_kind root d.description d.kind (names_in (filter_map (λ d. type_key d.kind) ds)) h.0 (free_names root ds h.1))
+
 -- a document in which no fault was found
 pub is_clean : (tree : List WrittenDefinition) → owner_faults tree ≡ [] → IsClean (document_of tree)
 is_clean tree e =
@@ -232,5 +296,7 @@ is_clean tree e =
     let d = none_both (query_faults (first_schema tree)) each c.1 in
     record {
       types = subst AreDistinct (type_names root tree) (distinct_from no_names (filter_map (λ d. type_key d.kind) tree) a.0).1;
+      unreserved = subst (AllByRecursion IsFree) (type_names root tree) (free_names root tree (none_each (definition_faults root) tree d.1));
+      directives = subst AreDistinct (directive_names tree) (distinct_from no_names (filter_map (λ d. directive_key d.kind) tree) b.0).1;
       definitions = all_mapped definition_of (λ d. definition_faults root d ≡ []) IsCleanDefinition (λ d h. clean_kind root d.description d.kind h) tree (none_each (definition_faults root) tree d.1);
     }

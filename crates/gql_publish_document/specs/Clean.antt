@@ -1,7 +1,8 @@
 -- What holds of a document in which the reader finds no fault: the names of each owner are distinct.
-use Rattle.std.specs.Prelude.{◌≡◌, List, [], map}
+use Rattle.std.specs.Prelude.{◌≡◌, false, List, [], map}
 use Rattle.std.specs.List.{AllByRecursion, IsDistinct}
 use Rattle.std.specs.Str.{bytes_eq}
+use Rattle.gql_text_lexer.specs.Forms.{is_reserved}
 use Rattle.gql_text_syntax.specs.declared.syntax.WrittenDefinition.{WrittenDefinition}
 use Rattle.gql_text.specs.DocumentOf.{document_of}
 use Rattle.gql_text.specs.Owners.{owner_faults}
@@ -14,7 +15,7 @@ use Rattle.gql_text.specs.declared.document.EnumValueDef.{EnumValueDef}
 use Rattle.gql_text.specs.declared.document.DirectiveUse.{DirectiveUse}
 use Rattle.gql_registry_meta.specs.Parts.{Text}
 use Rattle.gql_dynamic.specs.SchemaTypes.{type_name}
-use Rattle.gql_publish_document.specs.Document.{document_types}
+use Rattle.gql_publish_document.specs.Document.{document_types, document_directives}
 
 -- no name stands twice
 abbrev pub AreDistinct : List Text → Type 0
@@ -63,9 +64,12 @@ IsCleanDefinition (definition.Enum head values) = AreCleanUses head.uses × AreC
 IsCleanDefinition (definition.Input head fields) = AreCleanUses head.uses × AreCleanInputs fields
 IsCleanDefinition (definition.Directive directive) = AreCleanInputs directive.args
 
--- The names of its types are distinct, and so are those of each owner in it.
+-- The names of its types are distinct and not reserved; the names of its directives are distinct, and so are those of each
+-- owner in it.
 pub record IsClean (d : Document) : Type 0 where
   pub types : AreDistinct (map type_name (document_types d))
+  pub unreserved : AllByRecursion (λ name. is_reserved name ≡ false) (map type_name (document_types d))
+  pub directives : AreDistinct (map (λ directive. directive.name) (document_directives d))
   pub definitions : AllByRecursion IsCleanDefinition d.definitions
 
 -- a document is clean where its tree has no fault

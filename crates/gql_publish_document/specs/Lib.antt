@@ -5,3 +5,4 @@ pub mod Document
 pub mod Verdict
 pub mod Clean
 pub mod Standing
+pub mod Published

@@ -46,7 +46,8 @@ struct DescribedArguments<'a> {
 
 impl Writer<MetaInputValue> for DescribedArguments<'_> {
     ghost text = { λ w value.
-        described_argument_text (layout_view w.layout.now) (viewed_input_value (input_value_of value)) };
+        described_argument_text (layout_view w.layout.now)
+        (viewed_input_value (input_value_of value)) };
 
     fn push(
         &self,

@@ -30,7 +30,8 @@ struct Fields<'a> {
 
 impl Writer<MetaField> for Fields<'_> {
     ghost text = { λ w field.
-        field_text (layout_view w.layout.now) (viewed_field (choice_view w.choice) (field_of field)) };
+        field_text (layout_view w.layout.now)
+        (viewed_field (choice_view w.choice) (field_of field)) };
 
     fn push(&self, alloc: Global, out: &mut String, part: &MetaField) -> Result<(), OutOfMemory> {
         push_field(alloc, out, self.layout, self.choice, part)

@@ -1,0 +1,4 @@
+pub mod Lists
+pub mod SortedTypes
+pub mod Distinct
+pub mod Laws

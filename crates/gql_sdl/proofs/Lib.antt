@@ -1,0 +1,4 @@
+pub mod Taken
+pub mod SortedEntries
+pub mod Laws
+pub mod Texts

@@ -1,0 +1,9 @@
+pub use Rattle.gql_sdl_view.specs.Options
+pub use Rattle.gql_sdl_view.specs.Ordered
+pub use Rattle.gql_sdl_view.specs.View
+pub use Rattle.gql_sdl_view.specs.Descriptions
+pub use Rattle.gql_sdl_view.specs.Spelling
+pub mod Values
+pub mod Needs
+pub mod Taken
+pub mod Registered
