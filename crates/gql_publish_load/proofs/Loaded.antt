@@ -9,17 +9,20 @@ use Rattle.gql_text.specs.Verdict.{Spells, IsFault}
 use Rattle.gql_dynamic.specs.Errors.{fault_of}
 use Rattle.gql_check_rules.specs.Faults.{Fault}
 use Rattle.gql_check_rules.specs.Rules.{first_fault}
+use Rattle.gql_check.specs.Recorded.{Recorded, schema_contents}
 use Rattle.gql_check.specs.Recordings.{recorded_in}
 use Rattle.gql_check.specs.declared.schema.Schema.{Schema}
 use Rattle.gql_publish_document.specs.Clean.{IsClean}
 use Rattle.gql_publish_document.specs.Document.{document_schema, document_recorded}
+use Rattle.gql_publish_document.specs.Standing.{StandsFor}
 use Rattle.gql_publish_document.specs.Verdict.{Refusal, unreadable, broken, Verdict, HasVerdict}
 use Rattle.gql_publish_document.proofs.Cleanness.{is_clean}
 use Rattle.gql_publish_document.proofs.OneVerdict.{one_verdict}
 use Rattle.gql_publish_load.specs.declared.error.PublishError.{PublishError}
 use Rattle.gql_publish_load.specs.declared.error.PublishError.TheVariants as publish_error
 use Rattle.gql_publish_load.specs.Errors.{Refuses, read_as}
-use Rattle.gql_publish_load.specs.Loading.{Answers, IsRefusedFor}
+use Rattle.gql_publish_load.specs.Loading.{Answers, IsLoadedOf, IsRefusedFor}
+use Rattle.gql_publish_standing.proofs.Stands.{stands}
 
 pub clean_document : (bytes : List ℕ) (d : Document) → Spells d bytes → IsClean d
 clean_document bytes d s = subst IsClean (sym s.stands) (is_clean s.tree s.faultless)
@@ -47,9 +50,17 @@ module _ (bytes : List ℕ) (d : Document) (spelled : Spells d bytes) where
   refused_for (unreadable error) h = absurd h
   refused_for (broken fault) h = (d, spelled, h)
 
+  loaded : {x g : _} (schema : Schema x g) → first_fault (document_schema d) ≡ None → recorded_in schema ≡ document_recorded d → IsLoadedOf d schema
+  loaded schema valid recorded = record { recorded = recorded; stands = subst (λ (r : Recorded). StandsFor d (schema_contents r)) (sym recorded) (stands bytes d (spelled, valid)) }
+
+  pub valid_there : {x g : _} (r : Result (Schema x g) PublishError) → OnOk r (first_fault (document_schema d) ≡ None) → IfOk r (λ schema. recorded_in schema ≡ document_recorded d)
+      → IfOk r (λ schema. (d : Document) × HasVerdict bytes (Ok d) × IsLoadedOf d schema)
+  valid_there (Ok schema) valid recorded = (d, (spelled, valid), loaded schema valid recorded)
+  valid_there (Err error) valid recorded = tt
+
   pub only_there : {x g : _} (r : Result (Schema x g) PublishError) → OnOk r (first_fault (document_schema d) ≡ None) → IfOk r (λ schema. recorded_in schema ≡ document_recorded d) → IfErr r (Refuses (IsRefusedFor d))
       → (verdict : Verdict) → HasVerdict bytes verdict → Answers verdict r
-  only_there (Ok schema) valid recorded refused verdict h = (d, one_verdict bytes verdict (Ok d) h (spelled, valid), recorded)
+  only_there (Ok schema) valid recorded refused verdict h = (d, one_verdict bytes verdict (Ok d) h (spelled, valid), loaded schema valid recorded)
   only_there (Err error) valid recorded refused verdict h =
       refuses_so (IsRefusedFor d) (λ refusal. verdict ≡ Err refusal) (λ refusal k. one_verdict bytes verdict (Err refusal) h (refused_for refusal k)) error refused
 

@@ -21,7 +21,7 @@ ghost use Rattle.gql_publish_document.specs.Types.{is_root, type_in};
 ghost use Rattle.gql_publish_document.specs.Verdict.{HasVerdict, Verdict};
 ghost use Rattle.gql_publish_load.specs.Errors.{Refuses};
 ghost use Rattle.gql_publish_load.specs.Taking.{IsCleanObject};
-ghost use Rattle.gql_publish_load.specs.Loading.{Answers, AreNewTypes, IsRefusedFor, recorded_with, with_type};
+ghost use Rattle.gql_publish_load.specs.Loading.{Answers, AreNewTypes, IsLoadedOf, IsRefusedFor, recorded_with, with_type};
 
 use crate::directives::built_directive;
 use crate::error::PublishError;
@@ -218,10 +218,10 @@ fn load_document(alloc: Global, document: &WrittenDocument<'_>) -> Result<Schema
 ///
 /// A reader's fault comes exactly where the bytes are no document, with its place, and `Schema` exactly where they are
 /// one that breaks a rule, with the first such rule. The types and directives of the schema are those of the document, in
-/// its order.
+/// its order, and its registry stands for the document.
 pub fn load(alloc: Global, bytes: &[u8]) -> Result<Schema, PublishError>
     ensures valid { IfOk result (λ schema. (d : Document) × HasVerdict bytes.now (Ok d)
-        × (recorded_in schema ≡ document_recorded d)) }
+        × IsLoadedOf d schema) }
     ensures refused { IfErr result (Refuses (λ refusal. HasVerdict bytes.now (Err refusal))) }
     ensures only { (verdict : Verdict) → HasVerdict bytes.now verdict → Answers verdict result }
 {

@@ -1,4 +1,5 @@
 //! Members of types as a view has them, each under its key.
+#![tactic(auto, using(gql_registry_meta::proofs::Entries::entries_with_insertion))]
 
 ghost use Rattle.std.specs.Prelude.{◌≡◌, ◌∷◌, [], IfOk, OnOk};
 ghost use Rattle.std.specs.Str.{bytes_eq};
@@ -67,7 +68,6 @@ fn bare_argument(alloc: Global, value: &MetaInputValue) -> Result<MetaInputValue
 }
 
 /// Puts an argument or an input field under a key.
-#[tactic(auto, using(gql_registry_meta::proofs::Entries::entries_with_insertion))]
 fn put_input_value(
     made: &mut IndexMap<String, MetaInputValue>,
     key: &String,
@@ -173,7 +173,6 @@ fn viewed_field(
     })
 }
 
-#[tactic(auto, using(gql_registry_meta::proofs::Entries::entries_with_insertion))]
 fn put_field(
     made: &mut IndexMap<String, MetaField>,
     key: &String,
@@ -252,7 +251,6 @@ fn viewed_value(alloc: Global, value: &MetaEnumValue) -> Result<MetaEnumValue, O
     })
 }
 
-#[tactic(auto, using(gql_registry_meta::proofs::Entries::entries_with_insertion))]
 fn put_value(
     made: &mut IndexMap<String, MetaEnumValue>,
     key: &String,

@@ -1,4 +1,5 @@
 //! Which definitions of directives a view has.
+#![tactic(auto, using(crate::proofs::Taken::values_of_entries))]
 
 ghost use Rattle.std.specs.Prelude.{◌≡◌, ◌∷◌, [], List};
 ghost use Rattle.std.specs.List.{list_any};
@@ -22,7 +23,6 @@ pub(crate) struct Needs {
 }
 
 /// Whether one of the fields is deprecated: section 3.13.3.
-#[tactic(auto, using(crate::proofs::Taken::values_of_entries))]
 fn has_deprecated_field(fields: &IndexMap<String, MetaField>) -> bool
     ensures { result ≡ list_any (λ field. is_deprecated field.deprecation)
         (values_of (fields_in fields.now)) }
@@ -36,7 +36,6 @@ fn has_deprecated_field(fields: &IndexMap<String, MetaField>) -> bool
 }
 
 /// Whether one of the values is deprecated: section 3.13.3.
-#[tactic(auto, using(crate::proofs::Taken::values_of_entries))]
 fn has_deprecated_value(values: &IndexMap<String, MetaEnumValue>) -> bool
     ensures { result ≡ list_any (λ value. is_deprecated value.deprecation)
         (values_of (enum_values_in values.now)) }
@@ -118,7 +117,6 @@ impl Needs {
     }
 
     /// What one of the types needs.
-    #[tactic(auto, using(crate::proofs::Taken::values_of_entries))]
     pub(crate) fn of(types: &BTreeMap<String, MetaType>) -> Needs
         ensures { result ≡ needs_of (values_of (types_in types.now)) }
     {
