@@ -1,4 +1,5 @@
 pub mod FoundUses
 pub mod Loaded
+pub mod Publications
 pub mod Recordings
 pub mod Taken

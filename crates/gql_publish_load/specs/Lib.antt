@@ -2,3 +2,4 @@ pub mod Errors
 pub mod Taking
 pub mod Attributes
 pub mod Loading
+pub mod Publishing

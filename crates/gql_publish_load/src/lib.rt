@@ -10,6 +10,7 @@ mod fields;
 mod inputs;
 mod loading;
 mod objects;
+mod publishing;
 mod scalars;
 mod taking;
 mod types;
@@ -18,5 +19,7 @@ mod values;
 
 pub use error::PublishError;
 pub use gql_check::{Schema, SchemaError};
+pub use gql_sdl::SDLExportOptions;
 pub use gql_text::{Text, What};
 pub use loading::load;
+pub use publishing::{Published, publish};

@@ -47,14 +47,14 @@ pub(crate) fn sentence(rt: &impl Abort, alloc: Global, types: &SchemaTypes) -> S
 /// Types, the sentence of the first rule that they break, and the first input object that needs itself.
 type Case = (&'static [Row<'static>], &'static str, &'static str);
 
-pub(crate) const QUERY: Row<'static> = Row::Object("Query", &[("v", Named("Int"), &[])], &[]);
+pub(crate) const QUERY: Row<'static> = Row::Object("Query", &[("v", Named("Int"))], &[]);
 
 const CASES: [Case; 3] = [
     (
         &[
             QUERY,
-            Row::Input("A", &[("b", NonNull("B"), false)]),
-            Row::Input("B", &[("a", NonNull("A"), false)]),
+            Row::Input("A", &[("b", NonNull("B"))]),
+            Row::Input("B", &[("a", NonNull("A"))]),
         ],
         "\"A\" references itself either directly or through referenced Input Objects, at least one of the fields in the chain of references must be either a nullable or a List type.",
         "A",
@@ -62,8 +62,8 @@ const CASES: [Case; 3] = [
     (
         &[
             QUERY,
-            Row::Input("A", &[("b", NonNull("B"), false)]),
-            Row::Input("B", &[("a", Named("A"), false)]),
+            Row::Input("A", &[("b", NonNull("B"))]),
+            Row::Input("B", &[("a", Named("A"))]),
         ],
         "ok",
         "none",
@@ -71,7 +71,7 @@ const CASES: [Case; 3] = [
     (
         &[
             QUERY,
-            Row::Input("A", &[("b", NonNull("A"), false), ("d", Named("D"), false)]),
+            Row::Input("A", &[("b", NonNull("A")), ("d", Named("D"))]),
         ],
         "Type \"D\" not found",
         "A",

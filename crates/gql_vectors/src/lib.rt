@@ -16,6 +16,8 @@ mod meta_tests;
 #[cfg(test)]
 mod program_tests;
 #[cfg(test)]
+mod publish_tests;
+#[cfg(test)]
 mod registry_tests;
 #[cfg(test)]
 mod rows;
@@ -23,5 +25,7 @@ mod rows;
 mod rule_tests;
 #[cfg(test)]
 mod schema_tests;
+#[cfg(test)]
+mod sdl_tests;
 #[cfg(test)]
 mod value_tests;

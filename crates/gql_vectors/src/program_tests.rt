@@ -73,7 +73,7 @@ fn ends(rt: &impl Abort, ending: &Ending, status: u8, output: &str, line: &str, 
 }
 
 /// The types, the definitions of the system directives, and the schema block.
-fn canonical(rt: &impl Abort, alloc: Global, types: &str) -> String {
+pub(crate) fn canonical(rt: &impl Abort, alloc: Global, types: &str) -> String {
     got(rt, format!(in alloc; "{types}{TAIL}{SCHEMA}"))
 }
 

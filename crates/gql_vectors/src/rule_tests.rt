@@ -1,464 +1,162 @@
-//! The rules of a schema over types that are built in code, each with its sentence.
+//! The rules of a schema, each with the sentence that reports it: section 3 of the GraphQL specification, October 2021.
 
-use crate::asserting::{got, same};
-use crate::rows::Reference::{List, Named, NonNull};
-use crate::rows::{Member, Row, built};
-use gql_check::{Schema, SchemaError};
+use crate::publish_tests::is_told;
 use std::alloc::Global;
 use std::process::Abort;
 
-/// The names of the roots for mutations and subscriptions.
-type Roots = (Option<&'static str>, Option<&'static str>);
-
-/// Roots and types, and the sentence of the first rule that they break, or nothing.
-type Case = (Roots, &'static [Row<'static>], &'static str);
-
-/// Builds a schema of the types.
-fn finished(
-    rt: &impl Abort,
-    alloc: Global,
-    roots: Roots,
-    rows: &[Row<'_>],
-) -> Result<(), SchemaError> {
-    let mut builder = got(rt, Schema::build(alloc, "Query", roots.0, roots.1));
-    for row in rows {
-        builder = builder.register(built(rt, alloc, *row))?;
-    }
-    builder.finish()?;
-    Ok(())
-}
-
-/// The sentence of the first rule that the types break, or nothing.
-fn told(rt: &impl Abort, alloc: Global, roots: Roots, rows: &[Row<'_>]) -> String {
-    match finished(rt, alloc, roots, rows) {
-        Ok(()) => String::new(alloc),
-        Err(error) => got(rt, error.message(alloc)),
+/// Asserts that each document is refused with its sentence.
+fn are_refused(rt: &impl Abort, alloc: Global, cases: &[(&str, &str)]) {
+    for (document, sentence) in cases {
+        is_told(rt, alloc, document, sentence);
     }
 }
 
-fn hold(rt: &impl Abort, alloc: Global, cases: &[Case]) {
-    for (roots, rows, want) in cases {
-        same(rt, told(rt, alloc, *roots, rows).as_str(), want, "types");
-    }
-}
-
-/// A query root with one field.
-const QUERY: Row<'static> = Row::Object("Query", &[V], &[]);
-
-const V: Member<'static> = ("v", Named("Int"), &[]);
-
-const INPUT: Row<'static> = Row::Input("In", &[("a", Named("Int"), false)]);
-
-const NONE: Roots = (None, None);
-
-const KEPT: [Case; 9] = [
-    (NONE, &[QUERY], ""),
-    ((None, Some("S")), &[QUERY], ""),
+const NAMES: [(&str, &str); 11] = [
+    ("scalar Int type Query{v:X}", "Type \"Int\" already exists"),
+    ("scalar A", "Type \"Query\" not found"),
     (
-        NONE,
-        &[
-            Row::Interface(
-                "N",
-                &[("id", Named("Int"), &[]), ("n", Named("N"), &[])],
-                &[],
-            ),
-            Row::Object(
-                "U",
-                &[("id", NonNull("Int"), &[]), ("n", Named("U"), &[])],
-                &["N"],
-            ),
-            Row::Object("Query", &[("u", Named("U"), &[])], &[]),
-        ],
-        "",
+        "schema{query:Query mutation:M} type Query{v:Int}",
+        "Type \"M\" not found",
     ),
+    ("type Query{v:X}", "Type \"X\" not found"),
+    ("type Query{v(a:X):Int}", "Type \"X\" not found"),
+    ("type Query implements X{v:Int}", "Type \"X\" not found"),
+    ("type Query{v:Int} interface I{v:X}", "Type \"X\" not found"),
     (
-        NONE,
-        &[
-            Row::Interface("N", &[("f", Named("Int"), &[("a", NonNull("Int"))])], &[]),
-            Row::Object(
-                "Query",
-                &[("f", Named("Int"), &[("a", Named("Int"))])],
-                &["N"],
-            ),
-        ],
-        "",
-    ),
-    (
-        NONE,
-        &[
-            Row::Interface("N", &[V], &[]),
-            Row::Object(
-                "Query",
-                &[("v", Named("Int"), &[("a", Named("Int"))])],
-                &["N"],
-            ),
-        ],
-        "",
-    ),
-    (
-        NONE,
-        &[
-            Row::Input("A", &[("b", NonNull("B"), false)]),
-            Row::Input("B", &[("a", List("A"), false)]),
-            QUERY,
-        ],
-        "",
-    ),
-    (
-        (None, Some("S")),
-        &[QUERY, Row::Subscription("S", &[V])],
-        "",
-    ),
-    (
-        NONE,
-        &[Row::Object("Query", &[], &[]), Row::Entity("E", &[V])],
-        "",
-    ),
-    (
-        NONE,
-        &[
-            QUERY,
-            Row::Union("U", &["Query"]),
-            Row::Enum("E"),
-            Row::Scalar("S"),
-        ],
-        "",
-    ),
-];
-
-#[test]
-fn these_schemas_keep_the_rules(rt: HostRuntime) {
-    hold(&rt, rt.alloc(), &KEPT);
-}
-
-const NAMES: [Case; 12] = [
-    (
-        NONE,
-        &[QUERY, Row::Scalar("Int")],
-        "Type \"Int\" already exists",
-    ),
-    (NONE, &[QUERY, QUERY], "Type \"Query\" already exists"),
-    (NONE, &[], "Type \"Query\" not found"),
-    ((Some("M"), None), &[QUERY], "Type \"M\" not found"),
-    (
-        NONE,
-        &[Row::Object("Query", &[("v", Named("X"), &[])], &[])],
+        "type Query{v:Int} type Subscription{v:X}",
         "Type \"X\" not found",
     ),
-    (
-        NONE,
-        &[Row::Object("Query", &[("v", Named("Int"), &[("a", Named("X"))])], &[])],
-        "Type \"X\" not found",
-    ),
-    (
-        NONE,
-        &[Row::Object("Query", &[V], &["X"])],
-        "Type \"X\" not found",
-    ),
-    (
-        NONE,
-        &[QUERY, Row::Interface("I", &[("v", Named("X"), &[])], &[])],
-        "Type \"X\" not found",
-    ),
-    (
-        NONE,
-        &[QUERY, Row::Subscription("S", &[("v", Named("X"), &[])])],
-        "Type \"X\" not found",
-    ),
-    (
-        NONE,
-        &[QUERY, Row::Input("A", &[("a", Named("X"), false)])],
-        "Type \"X\" not found",
-    ),
-    (
-        NONE,
-        &[QUERY, Row::Union("U", &["X"])],
-        "Type \"X\" not found",
-    ),
-    (
-        NONE,
-        &[
-            Row::Enum("E"),
-            Row::Object("Query", &[("v", Named("X"), &[])], &["Y"]),
-        ],
-        "Type \"X\" not found",
-    ),
+    ("type Query{v:Int} input A{a:X}", "Type \"X\" not found"),
+    ("type Query{v:Int} union U=X", "Type \"X\" not found"),
+    ("type Query implements Y{v:X}", "Type \"X\" not found"),
 ];
 
 #[test]
 fn names_exist_and_are_not_those_of_system_scalars(rt: HostRuntime) {
-    hold(&rt, rt.alloc(), &NAMES);
+    are_refused(&rt, rt.alloc(), &NAMES);
 }
 
-const ROOTS: [Case; 4] = [
+const KINDS: [(&str, &str); 10] = [
+    ("enum Query{A}", "The query root must be an object"),
     (
-        NONE,
-        &[Row::Enum("Query")],
-        "The query root must be an object",
-    ),
-    (
-        NONE,
-        &[Row::Subscription("Query", &[V])],
-        "The query root must be an object",
-    ),
-    (
-        (Some("E"), None),
-        &[QUERY, Row::Enum("E")],
+        "schema{query:Query mutation:E} type Query{v:Int} enum E{A}",
         "The mutation root must be an object",
     ),
     (
-        (None, Some("Query")),
-        &[QUERY],
+        "schema{query:Query subscription:E} type Query{v:Int} enum E{A}",
         "The subscription root must be a subscription object",
     ),
-];
-
-#[test]
-fn roots_are_of_their_kinds(rt: HostRuntime) {
-    hold(&rt, rt.alloc(), &ROOTS);
-}
-
-const OBJECTS: [Case; 6] = [
     (
-        NONE,
-        &[Row::Object("Query", &[], &[])],
+        "type Query",
         "Object \"Query\" must define one or more fields",
     ),
     (
-        NONE,
-        &[Row::Object("Query", &[("__v", Named("Int"), &[])], &[])],
+        "type Query{__v:Int}",
         "Field \"Query.__v\" must not have a name which begins with the characters \"__\" (two underscores)",
     ),
     (
-        NONE,
-        &[INPUT, Row::Object("Query", &[("v", Named("In"), &[])], &[])],
+        "input In{a:Int} type Query{v:In}",
         "Field \"Query.v\" must return a output type",
     ),
     (
-        NONE,
-        &[Row::Object(
-            "Query",
-            &[("v", Named("Int"), &[("__a", Named("Int"))])],
-            &[],
-        )],
+        "type Query{v(__a:Int):Int}",
         "Argument \"Query.v.__a\" must not have a name which begins with the characters \"__\" (two underscores)",
     ),
     (
-        NONE,
-        &[Row::Object(
-            "Query",
-            &[("v", Named("Int"), &[("a", Named("Query"))])],
-            &[],
-        )],
+        "type Query{v(a:Query):Int}",
         "Argument \"Query.v.a\" must accept a input type",
     ),
     (
-        NONE,
-        &[Row::Object("Query", &[V], &["E"]), Row::Enum("E")],
+        "enum E{A} type Query implements E{v:Int}",
         "Type \"E\" is not interface",
+    ),
+    (
+        "union U=E enum E{A} type Query{v:Int}",
+        "Member \"E\" of union \"U\" is not an object",
     ),
 ];
 
 #[test]
-fn objects_keep_their_rules(rt: HostRuntime) {
-    hold(&rt, rt.alloc(), &OBJECTS);
+fn roots_objects_and_unions_keep_their_rules(rt: HostRuntime) {
+    are_refused(&rt, rt.alloc(), &KINDS);
 }
 
-const IMPLEMENTATION: [Case; 6] = [
+const IMPLEMENTATIONS: [(&str, &str); 10] = [
     (
-        NONE,
-        &[
-            Row::Interface("I", &[("w", Named("Int"), &[])], &[]),
-            Row::Object("Query", &[V], &["I"]),
-        ],
+        "interface I{w:Int} type Query implements I{v:Int}",
         "Object \"Query\" requires field \"w\" defined by interface \"I\"",
     ),
     (
-        NONE,
-        &[
-            QUERY,
-            Row::Interface("I", &[("w", Named("Int"), &[])], &[]),
-            Row::Interface("J", &[V], &["I"]),
-        ],
+        "type Query{v:Int} interface I{w:Int} interface J implements I{v:Int}",
         "Interface \"J\" requires field \"w\" defined by interface \"I\"",
     ),
     (
-        NONE,
-        &[
-            Row::Interface("I", &[("v", Named("Int"), &[("a", NonNull("Int"))])], &[]),
-            Row::Object("Query", &[V], &["I"]),
-        ],
+        "interface I{v(a:Int!):Int} type Query implements I{v:Int}",
         "Field \"Query.v\" requires argument \"a\" defined by interface \"I.v\"",
     ),
     (
-        NONE,
-        &[
-            Row::Interface("N", &[("f", Named("Int"), &[("a", Named("Int"))])], &[]),
-            Row::Object(
-                "Query",
-                &[("f", Named("Int"), &[("a", NonNull("Int"))])],
-                &["N"],
-            ),
-        ],
+        "interface N{f(a:Int):Int} type Query implements N{f(a:Int!):Int}",
         "Argument \"N.f.a\" is not sub-type of \"Query.f.a\"",
     ),
     (
-        NONE,
-        &[
-            Row::Interface("N", &[("id", NonNull("Int"), &[])], &[]),
-            Row::Object("Query", &[("id", Named("Int"), &[])], &["N"]),
-        ],
+        "interface N{id:Int!} type Query implements N{id:Int}",
         "Field \"Query.id\" is not sub-type of \"N.id\"",
     ),
     (
-        NONE,
-        &[
-            Row::Interface("N", &[("v", Named("Int"), &[])], &[]),
-            Row::Object("Query", &[("v", List("Int"), &[])], &["N"]),
-        ],
+        "interface N{v:Int} type Query implements N{v:[Int!]!}",
         "Field \"Query.v\" is not sub-type of \"N.v\"",
+    ),
+    (
+        "type Query{v:Int} interface I implements I{__v:Int}",
+        "Field \"I.__v\" must not have a name which begins with the characters \"__\" (two underscores)",
+    ),
+    (
+        "type Query{v:Int} interface I implements I{v:Int}",
+        "Interface \"I\" may not implement itself",
+    ),
+    (
+        "type Query{v:Int} interface I implements Int{v:Int __w:Int}",
+        "Type \"Int\" is not interface",
+    ),
+    (
+        "type Query{v:Int} interface I implements I{v:Int __w:Int}",
+        "Interface \"I\" may not implement itself",
     ),
 ];
 
 #[test]
 fn types_implement_what_they_declare(rt: HostRuntime) {
-    hold(&rt, rt.alloc(), &IMPLEMENTATION);
+    are_refused(&rt, rt.alloc(), &IMPLEMENTATIONS);
 }
 
-const INPUTS: [Case; 6] = [
+const INPUTS: [(&str, &str); 6] = [
     (
-        NONE,
-        &[QUERY, Row::Input("A", &[("__a", Named("Int"), false)])],
+        "type Query{v:Int} input A{__a:Int}",
         "Field \"A.__a\" must not have a name which begins with the characters \"__\" (two underscores)",
     ),
     (
-        NONE,
-        &[QUERY, Row::Input("A", &[("a", Named("Query"), false)])],
+        "type Query{v:Int} input A{a:Query}",
         "Field \"A.a\" must accept a input type",
     ),
     (
-        NONE,
-        &[
-            Row::OneOf(
-                "MyInput",
-                &[("a", Named("Int"), false), ("b", NonNull("Int"), false)],
-            ),
-            Row::Object(
-                "Query",
-                &[("v", Named("Int"), &[("i", Named("MyInput"))])],
-                &[],
-            ),
-        ],
+        "input MyInput @oneOf{a:Int b:Int!} type Query{v(i:MyInput):Int}",
         "Field \"MyInput.b\" must be nullable",
     ),
     (
-        NONE,
-        &[
-            Row::OneOf(
-                "MyInput",
-                &[("a", Named("Int"), false), ("b", Named("Int"), true)],
-            ),
-            Row::Object(
-                "Query",
-                &[("v", Named("Int"), &[("i", Named("MyInput"))])],
-                &[],
-            ),
-        ],
+        "input MyInput @oneOf{a:Int b:Int=10} type Query{v(i:MyInput):Int}",
         "Field \"MyInput.b\" must not have a default value",
     ),
     (
-        NONE,
-        &[
-            Row::Input("A", &[("b", NonNull("B"), false)]),
-            Row::Input("B", &[("a", NonNull("A"), false)]),
-            QUERY,
-        ],
+        "input A{b:B!} input B{a:A!} type Query{v:Int}",
         "\"A\" references itself either directly or through referenced Input Objects, at least one of the fields in the chain of references must be either a nullable or a List type.",
     ),
     (
-        NONE,
-        &[
-            Row::Input("A", &[("b", NonNull("B"), false)]),
-            Row::Input("B", &[("c", NonNull("C"), false)]),
-            Row::Input("C", &[("b", NonNull("B"), false)]),
-            QUERY,
-        ],
+        "input A{b:B!} input B{c:C!} input C{b:B!} type Query{v:Int}",
         "\"B\" references itself either directly or through referenced Input Objects, at least one of the fields in the chain of references must be either a nullable or a List type.",
     ),
 ];
 
 #[test]
 fn input_objects_keep_their_rules(rt: HostRuntime) {
-    hold(&rt, rt.alloc(), &INPUTS);
-}
-
-const INTERFACES: [Case; 7] = [
-    (
-        NONE,
-        &[
-            QUERY,
-            Row::Interface("I", &[("__v", Named("Int"), &[])], &["I"]),
-        ],
-        "Field \"I.__v\" must not have a name which begins with the characters \"__\" (two underscores)",
-    ),
-    (
-        NONE,
-        &[QUERY, Row::Interface("I", &[V], &["I"])],
-        "Interface \"I\" may not implement itself",
-    ),
-    (
-        NONE,
-        &[QUERY, Row::Interface("I", &[V], &["Int"])],
-        "Type \"Int\" is not interface",
-    ),
-    (NONE, &[QUERY, Row::Interface("I", &[V], &["X"])], ""),
-    (
-        NONE,
-        &[QUERY, Row::Interface("I", &[], &["E"]), Row::Enum("E")],
-        "",
-    ),
-    (
-        NONE,
-        &[
-            QUERY,
-            Row::Interface("I", &[V, ("__w", Named("Int"), &[])], &["I"]),
-        ],
-        "Interface \"I\" may not implement itself",
-    ),
-    (
-        NONE,
-        &[
-            QUERY,
-            Row::Interface("I", &[V, ("__w", Named("Int"), &[])], &["Int"]),
-        ],
-        "Type \"Int\" is not interface",
-    ),
-];
-
-#[test]
-fn interfaces_keep_their_rules(rt: HostRuntime) {
-    hold(&rt, rt.alloc(), &INTERFACES);
-}
-
-const UNIONS: [Case; 2] = [
-    (
-        NONE,
-        &[Row::Union("U", &["E"]), Row::Enum("E"), QUERY],
-        "Member \"E\" of union \"U\" is not an object",
-    ),
-    (
-        NONE,
-        &[
-            Row::Union("U", &["E"]),
-            Row::Enum("E"),
-            QUERY,
-            Row::Interface("I", &[V], &["I"]),
-        ],
-        "Interface \"I\" may not implement itself",
-    ),
-];
-
-#[test]
-fn members_of_unions_are_objects(rt: HostRuntime) {
-    hold(&rt, rt.alloc(), &UNIONS);
+    are_refused(&rt, rt.alloc(), &INPUTS);
 }

@@ -10,7 +10,7 @@ use gql_text::TypeRef;
 use std::alloc::Global;
 use std::process::Abort;
 
-const V: Member<'static> = ("v", Named("Int"), &[]);
+const V: Member = ("v", Named("Int"));
 
 /// A builder with a query root of one field.
 fn begun(rt: &impl Abort, alloc: Global) -> SchemaBuilder {
@@ -26,7 +26,7 @@ fn implementers(rt: &impl Abort, alloc: Global) -> Schema {
         Row::Object("Query", &[V], &["I"]),
         Row::Object("B", &[V], &["I"]),
         Row::Object("A", &[V], &["I"]),
-        Row::Interface("I", &[V], &[]),
+        Row::Interface("I", &[V]),
     ] {
         builder = got(rt, builder.register(built(rt, alloc, row)));
     }
