@@ -1,4 +1,10 @@
 //! Building a schema: its types, its directives, the rules that it keeps, and its registry.
+//!
+//! ```rust
+//! let builder = Schema::build(alloc, "Query", None, None)?;
+//! let schema = builder.register(Type::from(query))?.finish()?;
+//! let types = schema.registry().types();
+//! ```
 #![tactic(auto)]
 
 mod builder;

@@ -1,4 +1,10 @@
 //! Types of a schema that is built in code, their registration, and the errors of schemas.
+//!
+//! ```rust
+//! let id = Field::new(alloc, "id", TypeRef::named_nn(alloc, "ID")?)?;
+//! let order = Object::new(alloc, "Order")?.implement("Node")?.field(id)?;
+//! Type::from(order).register(&mut registry)?;
+//! ```
 #![tactic(auto)]
 
 mod schema_error;

@@ -1,5 +1,12 @@
 //! Builders of the parts of types: uses of directives, values of enums, input values and fields. Each records its
 //! calls, and `meta` answers the part of a schema that is registered for it.
+//!
+//! ```rust
+//! let first = InputValue::new(alloc, "first", TypeRef::named(alloc, "Int")?)?
+//!     .default_value(ConstValue::Number(Number::from_i64(10)))?;
+//! let lines = Field::new(alloc, "lines", TypeRef::named_nn_list_nn(alloc, "Line")?)?
+//!     .argument(first)?;
+//! ```
 #![tactic(auto)]
 
 mod deprecation;

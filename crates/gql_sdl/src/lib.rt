@@ -1,5 +1,10 @@
 //! The canonical text of a schema in the type system definition language, and the view of a schema, which is what that
 //! text says: section 3 of the GraphQL specification, October 2021.
+//!
+//! ```rust
+//! let options = SDLExportOptions::new().sorted_fields().use_space_ident();
+//! let text = export_sdl(alloc, schema.registry(), options)?;
+//! ```
 #![tactic(auto)]
 
 mod members;

@@ -1,5 +1,12 @@
 //! Where bytes come from and where they go: sources and sinks that count their faults, in memory and over the
 //! standard streams, and the two loops over them.
+//!
+//! ```rust
+//! let mut input = StdSource::new(rt.stdin());
+//! let bytes = read_all(alloc, &mut input, limit)?;
+//! let mut output = StdSink::new(rt.stdout());
+//! write_all(&mut output, bytes.as_slice())?;
+//! ```
 #![tactic(auto)]
 
 mod memory;

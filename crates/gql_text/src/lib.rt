@@ -1,5 +1,14 @@
 //! Names, values, tokens and type references of GraphQL, and the reader of schema documents. A user of the reader takes
 //! all that it needs from here.
+//!
+//! ```rust
+//! let document = read_document(alloc, b"type Query { orders: [Order!]! }")?;
+//! for definition in document.as_slice() {
+//!     if let Kind::Object(object) = &definition.kind {
+//!         names.push(object.key.name.as_str())?;
+//!     }
+//! }
+//! ```
 #![tactic(auto)]
 
 mod conversion;
