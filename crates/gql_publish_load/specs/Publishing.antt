@@ -6,7 +6,7 @@ use Rattle.gql_registry.specs.Registry.{Contents}
 use Rattle.gql_sdl_view.specs.Options.{Options}
 use Rattle.gql_sdl_view.specs.Spelling.{spell}
 use Rattle.gql_sdl_view.specs.View.{view_of}
-use Rattle.gql_publish_document.specs.Standing.{StandsFor}
+use Rattle.gql_publish_document.specs.Published.{IsPublished}
 use Rattle.gql_publish_document.specs.Verdict.{Verdict}
 use Rattle.gql_publish_load.specs.declared.error.PublishError.{PublishError}
 use Rattle.gql_publish_load.specs.declared.publishing.Published.{Published}
@@ -17,14 +17,10 @@ use Rattle.gql_publish_load.specs.Loading.{contents_of}
 abbrev pub registry_spelling : Options → Contents → Text
 registry_spelling o contents = spell o (view_of (record o { include_specified_by = true }) contents)
 
--- what the registry holds stands for the document, and the text is its spelling
-pub record IsPublishedOf (o : Options) (d : Document) (text : Text) (contents : Contents) : Type 0 where
-  pub is : text ≡ registry_spelling o contents
-  pub stands : StandsFor d contents
-
--- the text and the schema that are published of a document
+-- The text that is published of a document is its canonical text, and the schema's registry stands for the document. The
+-- text is read again as a document with the same view, and tells this view.
 abbrev pub Publishes : {x g : _} → Options → Document → Published x g → Type 0
-Publishes o d published = IsPublishedOf o d (string_bytes published.text) (contents_of published.schema)
+Publishes o d published = IsPublished o d (string_bytes published.text) (contents_of published.schema)
 
 -- The answer is what the verdict says, unless memory runs out: what is published of the document, or the refusal.
 abbrev pub AnswersPublished : {x g : _} → Options → Verdict → Result (Published x g) PublishError → Type 0

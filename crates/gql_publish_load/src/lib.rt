@@ -1,5 +1,5 @@
-//! From the bytes of a document to a schema: `load`, and why bytes are refused. Each definition that is written becomes a
-//! builder of a type, or the definition of a directive, with one copy of each name.
+//! From the bytes of a document to its schema and its canonical text: `load`, `publish`, and why bytes are refused. Each
+//! definition that is written becomes a builder of a type, or the definition of a directive, with one copy of each name.
 #![tactic(auto)]
 
 mod attributes;

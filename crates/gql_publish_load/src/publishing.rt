@@ -11,6 +11,8 @@ ghost use Rattle.gql_publish_load.specs.Publishing.{AnswersPublished, Publishes,
 use crate::error::PublishError;
 use crate::loading::load;
 use gql_check::Schema;
+use gql_publish_order::canonical_laws;
+use gql_publish_views::view_laws;
 use gql_sdl::{OutOfMemory, SDLExportOptions, export_sdl};
 use std::alloc::Global;
 
@@ -36,6 +38,9 @@ fn registry_text(
 /// The canonical text of the document that the bytes are, and its schema. The URLs of scalars are published, and nothing
 /// looks at `federation` and `compose_directive`.
 ///
+/// The text is the spelling of the document's view under the options. It is itself a valid document with the same view, and
+/// each valid document has this text exactly where it has this view. The registry of the schema stands for the document.
+///
 /// The refusals are those of [`load`], and come exactly where they come there.
 pub fn publish(
     alloc: Global,
@@ -48,6 +53,8 @@ pub fn publish(
     ensures exactly { (verdict : Verdict) → HasVerdict bytes.now verdict →
         AnswersPublished (options_of options) verdict result }
 {
+    canonical_laws();
+    view_laws();
     match load(alloc, bytes) {
         Ok(schema) => {
             let text = registry_text(alloc, &schema, options)?;
