@@ -27,7 +27,14 @@ ICONV = ["iconv", "-f", "UTF-8", "-t", "UTF-8"]
 MIB = 1 << 20
 HEAD = "schema{query:Query} type Query{v:Int}\n"
 
-# one service's worth of definitions: it is read whole, and then answered with `not yet supported`
+# what every service uses
+SHARED = HEAD + '''interface Named { name: String! }
+type Address { street: String city: String! }
+enum Currency { EUR USD }
+scalar Money
+'''
+
+# one service's worth of definitions
 SERVICE = '''
 """
 A customer of the shop, with all that the shop keeps of one.
@@ -47,10 +54,19 @@ type Customer{0} implements Node{0} & Named @key(fields: "id") {{
   notes: [String!] @auth(roles: ["admin", "support"])
 }}
 
+type Order{0} implements Node{0} {{
+  id: ID!
+  state: OrderState{0}!
+}}
+
 interface Node{0} {{
   "the number"
   id: ID!
 }}
+
+enum NameStyle{0} {{ SHORT LONG }}
+
+enum AddressKind{0} {{ HOME WORK }}
 
 enum OrderState{0} {{ OPEN PAID SENT "taken back" RETURNED @deprecated }}
 
@@ -83,7 +99,7 @@ SHAPES = {
     "scalars": (HEAD, "scalar S{0}\n", ""),
     "objects": (HEAD, "type T{0} {{ id: ID! name: String next: [T{0}!]! }}\n", ""),
     "one object": ("schema{query:Query} type Query{\n", "  field{0}: [Int!]!\n", "}\n"),
-    "services": (HEAD, SERVICE, ""),
+    "services": (SHARED, SERVICE, ""),
 }
 
 # the beginning, one numbered line, how often it stands, and the end

@@ -29,3 +29,5 @@ mod schema_tests;
 mod sdl_tests;
 #[cfg(test)]
 mod value_tests;
+#[cfg(test)]
+mod word_tests;

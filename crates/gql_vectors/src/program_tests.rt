@@ -1,22 +1,20 @@
-//! Runs of the program over memory.
+//! Runs of the program over memory. The documents of other tables are run too, where they stand.
 
 use crate::asserting::{got, same, text};
 use gql_publish::{MemorySink, MemorySource, SureSink, SureSource, run};
 use std::alloc::Global;
 use std::process::Abort;
 
-const QUERY: &str = "type Query {\n\tv: Int\n}\n\n";
-
-const TAIL: &str =
+pub(crate) const TAIL: &str =
     "\"\"\"\nDirects the executor to include this field or fragment only when the `if` argument is true.\n\"\"\"\ndirective @include(if: Boolean!) on FIELD | FRAGMENT_SPREAD | INLINE_FRAGMENT\n\"\"\"\nDirects the executor to skip this field or fragment when the `if` argument is true.\n\"\"\"\ndirective @skip(if: Boolean!) on FIELD | FRAGMENT_SPREAD | INLINE_FRAGMENT\n";
 
 const SCHEMA: &str = "schema {\n\tquery: Query\n}\n";
 
-const ROOM: usize = 1_048_576;
+pub(crate) const ROOM: usize = 1_048_576;
 
 /// How a run ended: the status, the output and the line.
 #[derive(Drop)]
-struct Ending {
+pub(crate) struct Ending {
     status: u8,
     output: String,
     line: String,
@@ -38,7 +36,7 @@ fn sink(rt: &impl Abort, alloc: Global, room: usize) -> MemorySink {
 }
 
 /// Runs on an input that is read three bytes at a time and written four bytes at a time.
-fn ran(
+pub(crate) fn ran(
     rt: &impl Abort,
     alloc: Global,
     input: &[u8],
@@ -66,7 +64,14 @@ fn ran_on(rt: &impl Abort, alloc: Global, input: &[u8]) -> Ending {
 }
 
 /// Asserts how a run ended.
-fn ends(rt: &impl Abort, ending: &Ending, status: u8, output: &str, line: &str, input: &str) {
+pub(crate) fn ends(
+    rt: &impl Abort,
+    ending: &Ending,
+    status: u8,
+    output: &str,
+    line: &str,
+    input: &str,
+) {
     same(rt, ending.line.as_str(), line, input);
     same(rt, ending.output.as_str(), output, input);
     assert!(rt; ending.status == status, "of {input}");
@@ -77,114 +82,86 @@ pub(crate) fn canonical(rt: &impl Abort, alloc: Global, types: &str) -> String {
     got(rt, format!(in alloc; "{types}{TAIL}{SCHEMA}"))
 }
 
-const PLAIN: [(&str, &str); 6] = [
-    (
-        "schema{query:Query} type Query{v:Int}",
-        "type Query {\n\tv: Int\n}\n\n",
-    ),
-    ("type Query{v:Int}", "type Query {\n\tv: Int\n}\n\n"),
-    (
-        "schema{query:Query} scalar B,type Query{v:[B!]!}#c\nscalar A",
-        "scalar A\n\nscalar B\n\ntype Query {\n\tv: [B!]!\n}\n\n",
-    ),
-    (
-        "scalar B,type Query{v:Int}#c\nscalar A",
-        "scalar A\n\nscalar B\n\ntype Query {\n\tv: Int\n}\n\n",
-    ),
-    (
-        "scalar A scalar B type Query{v:Int}",
-        "scalar A\n\nscalar B\n\ntype Query {\n\tv: Int\n}\n\n",
-    ),
-    (
-        "type Query{type:scalar,b:[[Int!]]a:ID!}scalar scalar",
-        "type Query {\n\ttype: scalar\n\tb: [[Int!]]\n\ta: ID!\n}\n\nscalar scalar\n\n",
-    ),
-];
-
-#[test]
-fn plain_documents_are_published(rt: HostRuntime) {
-    for (input, types) in PLAIN {
-        let ending = ran_on(&rt, rt.alloc(), input.as_bytes());
-        let want = canonical(&rt, rt.alloc(), types);
-        ends(&rt, &ending, 0, want.as_str(), "", input);
-    }
-    assert_eq!(rt; canonical(&rt, rt.alloc(), QUERY).len(), 394);
+/// Asserts that a run on the document writes this text, and writes it again where the text is its input.
+pub(crate) fn is_written(rt: &impl Abort, alloc: Global, document: &str, text: &str) {
+    let ending = ran_on(rt, alloc, document.as_bytes());
+    ends(rt, &ending, 0, text, "", document);
+    let again = ran_on(rt, alloc, text.as_bytes());
+    ends(rt, &again, 0, text, "", text);
 }
 
-/// Asserts that a document is refused with this line.
-fn is_refused(rt: &impl Abort, alloc: Global, input: &str, line: &str) {
-    let ending = ran_on(rt, alloc, input.as_bytes());
-    ends(rt, &ending, 1, "", line, input);
+/// Asserts that a run on the document refuses it and reports this.
+pub(crate) fn is_refused(rt: &impl Abort, alloc: Global, document: &str, report: &str) {
+    let ending = ran_on(rt, alloc, document.as_bytes());
+    let line = got(rt, format!(in alloc; "{report}\n"));
+    ends(rt, &ending, 1, "", line.as_str(), document);
 }
 
 const FAULTS: [(&str, &str); 28] = [
     (
         "type Query{v(a:ID=-9223372036854775809):Int}",
-        "number out of range at 18\n",
+        "number out of range at 18",
     ),
     (
         "type Query{v(a:ID=340282366920938463463374607431768211456):Int}",
-        "number out of range at 18\n",
+        "number out of range at 18",
     ),
     (
         "type Query{v(a:ID=-340282366920938463463374607431768211456):Int}",
-        "number out of range at 18\n",
+        "number out of range at 18",
     ),
-    ("type Query{v(a:ID=[1.5", "unsupported float at 19\n"),
-    ("type Query{v:1.5}", "syntax error at 13\n"),
-    ("type Query{v(a:Int=01", "syntax error at 19\n"),
-    ("type Query{v:Int", "syntax error at 16\n"),
-    ("type Query{v:Int}\"", "syntax error at 17\n"),
-    ("type Query{v:Int}\u{1}", "syntax error at 17\n"),
-    ("type Query{v:Int} extend", "unsupported extend at 18\n"),
-    ("\"d\" extend type T", "syntax error at 4\n"),
-    ("union U = type Query{v:Int}", "syntax error at 15\n"),
-    ("#\u{e9}\u{20ac}\u{1f600}\n%", "syntax error at 11\n"),
-    (
-        "\"\u{e9}\u{20ac}\u{1f600}\" scalar 1",
-        "syntax error at 19\n",
-    ),
+    ("type Query{v(a:ID=[1.5", "unsupported float at 19"),
+    ("type Query{v:1.5}", "syntax error at 13"),
+    ("type Query{v(a:Int=01", "syntax error at 19"),
+    ("type Query{v:Int", "syntax error at 16"),
+    ("type Query{v:Int}\"", "syntax error at 17"),
+    ("type Query{v:Int}\u{1}", "syntax error at 17"),
+    ("type Query{v:Int} extend", "unsupported extend at 18"),
+    ("\"d\" extend type T", "syntax error at 4"),
+    ("union U = type Query{v:Int}", "syntax error at 15"),
+    ("#\u{e9}\u{20ac}\u{1f600}\n%", "syntax error at 11"),
+    ("\"\u{e9}\u{20ac}\u{1f600}\" scalar 1", "syntax error at 19"),
     (
         "scalar __A scalar __A type Query{v:Int}",
-        "\"__A\" is a reserved name at 7\n",
+        "\"__A\" is a reserved name at 7",
     ),
-    ("", "syntax error at 0\n"),
+    ("", "syntax error at 0"),
     (
         "type Query{v(a:ID=18446744073709551616):Int}",
-        "number out of range at 18\n",
+        "number out of range at 18",
     ),
-    ("type Query{v(a:ID=1.5):Int}", "unsupported float at 18\n"),
+    ("type Query{v(a:ID=1.5):Int}", "unsupported float at 18"),
     (
         "type __A{a:Int} type __A{a:Int} type Query{v:Int}",
-        "\"__A\" is a reserved name at 5\n",
+        "\"__A\" is a reserved name at 5",
     ),
-    ("type Query{v:Int} union U =", "syntax error at 27\n"),
-    ("type Query{v:Int v:Int}", "\"v\" is repeated at 17\n"),
+    ("type Query{v:Int} union U =", "syntax error at 27"),
+    ("type Query{v:Int v:Int}", "\"v\" is repeated at 17"),
     (
         "type Query{v:Int} extend type Query{w:Int}",
-        "unsupported extend at 18\n",
+        "unsupported extend at 18",
     ),
     (
         "schema{query:Query}schema{query:Query}type Query{v:Int}",
-        "unsupported second schema block at 19\n",
+        "unsupported second schema block at 19",
     ),
     (
         "schema{mutation:M}type M{v:Int}",
-        "unsupported schema block without query at 0\n",
+        "unsupported schema block without query at 0",
     ),
     (
         "\"d\" schema{query:Query}type Query{v:Int}",
-        "unsupported decorated schema block at 0\n",
+        "unsupported decorated schema block at 0",
     ),
     (
         "type Query{v:Int} type Subscription @x{v:Int}",
-        "unsupported decorated subscription root at 36\n",
+        "unsupported decorated subscription root at 36",
     ),
     (
         "type Query @deprecated{v:Int}",
-        "unsupported misused attribute at 11\n",
+        "unsupported misused attribute at 11",
     ),
-    ("\"\u{e9}\" type Query{v:Int} }", "syntax error at 23\n"),
+    ("\"\u{e9}\" type Query{v:Int} }", "syntax error at 23"),
 ];
 
 #[test]
@@ -203,44 +180,6 @@ fn the_first_fault_of_the_reader_is_reported_at_its_place(rt: HostRuntime) {
     );
 }
 
-const REFUSED: [(&str, &str); 8] = [
-    (
-        "schema{query:Query} scalar Int type Query{v:X}",
-        "Type \"Int\" already exists\n",
-    ),
-    (
-        "schema{query:Query} type Query{v:X}",
-        "Type \"X\" not found\n",
-    ),
-    (
-        "schema{query:A} scalar A",
-        "The query root must be an object\n",
-    ),
-    (
-        "schema{query:Query} type Query{}",
-        "Object \"Query\" must define one or more fields\n",
-    ),
-    (
-        "schema{query:Q} type Query{v:Int}",
-        "Type \"Q\" not found\n",
-    ),
-    ("enum Query{A}", "not yet supported\n"),
-    (
-        "type Query{v:Int} type Mutation{v:Int}",
-        "not yet supported\n",
-    ),
-    ("type Query{v:Int} scalar Upload", "not yet supported\n"),
-];
-
-#[test]
-fn what_is_not_plain_and_the_first_broken_rule_are_reported(rt: HostRuntime) {
-    for (input, line) in REFUSED {
-        is_refused(&rt, rt.alloc(), input, line);
-    }
-    let written = canonical(&rt, rt.alloc(), QUERY);
-    is_refused(&rt, rt.alloc(), written.as_str(), "not yet supported\n");
-}
-
 /// `type Query{v:`, brackets round `Int`, and `}`.
 fn bracketed(rt: &impl Abort, alloc: Global, count: usize) -> String {
     let mut text = text(rt, alloc, "type Query{v:");
@@ -255,27 +194,14 @@ fn bracketed(rt: &impl Abort, alloc: Global, count: usize) -> String {
     text
 }
 
-/// The text without the definitions of the system directives.
-fn without_directives(rt: &impl Abort, alloc: Global, written: &str) -> String {
-    match written.split_once(TAIL) {
-        Some((types, schema)) => got(rt, format!(in alloc; "{types}{schema}")),
-        None => text(rt, alloc, "no definitions of directives"),
-    }
+/// Asserts that what is written of a document is read again, and written as it was.
+pub(crate) fn is_read_again(rt: &impl Abort, alloc: Global, document: &str) {
+    let first = ran_on(rt, alloc, document.as_bytes());
+    is_written(rt, alloc, document, first.output.as_str());
 }
 
-/// Asserts that the text of a document is read again, and is written as it was.
-fn is_read_again(rt: &impl Abort, alloc: Global, input: &str) {
-    let first = ran_on(rt, alloc, input.as_bytes());
-    let bare = without_directives(rt, alloc, first.output.as_str());
-    let again = ran_on(rt, alloc, bare.as_bytes());
-    ends(rt, &again, 0, first.output.as_str(), "", input);
-}
-
-const WRITTEN: [&str; 7] = [
-    "schema{query:Query} type Query{v:Int}",
+const READ_AGAIN: [&str; 4] = [
     "schema{query:Query} scalar B,type Query{v:[B!]!}#c\nscalar A",
-    "type Query{v:Int}",
-    "type Query{type:scalar,b:[[Int!]]a:ID!}scalar scalar",
     "schema{query:schema} type schema{query:type} scalar type",
     "type B{a:C} type Query{z:B a:A!} scalar C scalar A",
     "type Query{a:Int b:Int! c:[Int] d:[Int]! e:[Int!] f:[Int!]! g:[[Int]] h:[[Int!]!]! i:[[[Query]]!]}",
@@ -283,20 +209,18 @@ const WRITTEN: [&str; 7] = [
 
 #[test]
 fn what_is_written_is_read_again(rt: HostRuntime) {
-    for input in WRITTEN {
-        is_read_again(&rt, rt.alloc(), input);
+    for document in READ_AGAIN {
+        is_read_again(&rt, rt.alloc(), document);
     }
-    let deepest = bracketed(&rt, rt.alloc(), 64);
-    is_read_again(&rt, rt.alloc(), deepest.as_str());
 }
 
 #[test]
 fn sixty_four_brackets_may_be_open(rt: HostRuntime) {
-    let input = bracketed(&rt, rt.alloc(), 64);
-    assert!(rt; ran_on(&rt, rt.alloc(), input.as_bytes()).status == 0);
+    let deepest = bracketed(&rt, rt.alloc(), 64);
+    is_read_again(&rt, rt.alloc(), deepest.as_str());
     for count in [65, 1000] {
         let input = bracketed(&rt, rt.alloc(), count);
-        is_refused(&rt, rt.alloc(), input.as_str(), "nested too deep at 77\n");
+        is_refused(&rt, rt.alloc(), input.as_str(), "nested too deep at 77");
     }
 }
 
@@ -324,15 +248,6 @@ fn a_fault_of_the_sink_is_reported(rt: HostRuntime) {
         "write fault\n",
         "a sink with little room",
     );
-}
-
-#[test]
-fn a_word_is_refused(rt: HostRuntime) {
-    let alloc = rt.alloc();
-    let mut words = Vec::new(alloc);
-    got(&rt, words.push(text(&rt, alloc, "--indent")));
-    let ending = ran(&rt, alloc, INPUT.as_bytes(), Vec::new(alloc), ROOM, &words);
-    ends(&rt, &ending, 2, "", "bad words\n", "a word");
 }
 
 /// A document of this size: blanks stand after the type.

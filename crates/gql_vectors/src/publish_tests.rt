@@ -1,8 +1,8 @@
-//! Documents that are published: each has the text of its registry, or is refused by the first rule that it breaks.
+//! Documents that are published, by the library and by the program: each has the text of its view.
 
 use crate::asserting::{got, same, text};
-use crate::program_tests::canonical;
-use gql_publish_load::{PublishError, Published, SDLExportOptions, load, publish};
+use crate::program_tests::{canonical, is_read_again, is_written};
+use gql_publish::{PublishError, Published, SDLExportOptions, load, publish};
 use std::alloc::Global;
 use std::process::Abort;
 
@@ -11,12 +11,7 @@ fn text_in(published: Published) -> String {
 }
 
 /// The text that is published of a document, or the sentence of the rule that it breaks.
-pub(crate) fn told(
-    rt: &impl Abort,
-    alloc: Global,
-    document: &str,
-    options: SDLExportOptions,
-) -> String {
+fn told(rt: &impl Abort, alloc: Global, document: &str, options: SDLExportOptions) -> String {
     match publish(alloc, document.as_bytes(), options) {
         Ok(published) => text_in(published),
         Err(PublishError::Schema(error)) => got(rt, error.message(alloc)),
@@ -103,11 +98,16 @@ fn documents_are_published(rt: HostRuntime) {
     for (document, types) in PUBLISHED {
         let want = canonical(&rt, rt.alloc(), types);
         is_told(&rt, rt.alloc(), document, want.as_str());
+        is_written(&rt, rt.alloc(), document, want.as_str());
     }
 }
 
 /// Documents, each with its whole text.
-const WHOLE: [(&str, &str); 3] = [
+const WHOLE: [(&str, &str); 4] = [
+    (
+        "directive @deprecated(reason: String) on FIELD_DEFINITION directive @specifiedBy(url: String!) on SCALAR directive @oneOf on INPUT_OBJECT directive @skip on FIELD directive @unused(a: [Int] = [1, -0]) repeatable on QUERY | ENUM type Query @a { v(a: Int = -0 @deprecated @x): Int @y @deprecated(reason: \"r\") @z } input I @w @oneOf { a: Int @deprecated @u b: Upload } scalar Upload @b scalar S @v @specifiedBy(url: \"u\") enum E { __A @x @deprecated }",
+        "enum E {\n\t__A @deprecated @x\n}\n\ninput I @oneOf @w {\n\ta: Int @deprecated @u\n\tb: Upload\n}\n\ntype Query @a {\n\tv(a: Int = 0 @deprecated @x): Int @deprecated(reason: \"r\") @y @z\n}\n\nscalar S @specifiedBy(url: \"u\") @v\n\nscalar Upload @b\n\ndirective @deprecated(reason: String) on FIELD_DEFINITION\n\"\"\"\nDirects the executor to include this field or fragment only when the `if` argument is true.\n\"\"\"\ndirective @include(if: Boolean!) on FIELD | FRAGMENT_SPREAD | INLINE_FRAGMENT\ndirective @oneOf on INPUT_OBJECT\ndirective @skip on FIELD\ndirective @specifiedBy(url: String!) on SCALAR\ndirective @unused(a: [Int] = [1, 0]) repeatable on QUERY | ENUM\nschema {\n\tquery: Query\n}\n",
+    ),
     (
         "type Query{v:Int @deprecated(reason: \"say \\\"no\\\" \\\\ \\u0001\")}",
         "type Query {\n\tv: Int @deprecated(reason: \"say \\\"no\\\" \\\\ \\u0001\")\n}\n\n\"\"\"\nMarks an element of a GraphQL schema as no longer supported.\n\"\"\"\ndirective @deprecated(reason: String = \"No longer supported\") on FIELD_DEFINITION | ARGUMENT_DEFINITION | INPUT_FIELD_DEFINITION | ENUM_VALUE\n\"\"\"\nDirects the executor to include this field or fragment only when the `if` argument is true.\n\"\"\"\ndirective @include(if: Boolean!) on FIELD | FRAGMENT_SPREAD | INLINE_FRAGMENT\n\"\"\"\nDirects the executor to skip this field or fragment when the `if` argument is true.\n\"\"\"\ndirective @skip(if: Boolean!) on FIELD | FRAGMENT_SPREAD | INLINE_FRAGMENT\nschema {\n\tquery: Query\n}\n",
@@ -126,6 +126,7 @@ const WHOLE: [(&str, &str); 3] = [
 fn needed_definitions_and_roots_are_published(rt: HostRuntime) {
     for (document, want) in WHOLE {
         is_told(&rt, rt.alloc(), document, want);
+        is_written(&rt, rt.alloc(), document, want);
     }
 }
 
@@ -137,8 +138,57 @@ const SHOP_TEXT: &str =
 
 #[test]
 fn a_shop_is_published(rt: HostRuntime) {
-    for document in [SHOP, SHOP_TEXT] {
-        is_told(&rt, rt.alloc(), document, SHOP_TEXT);
+    is_told(&rt, rt.alloc(), SHOP, SHOP_TEXT);
+    is_written(&rt, rt.alloc(), SHOP, SHOP_TEXT);
+}
+
+/// A description as it is written; before its scalar in a text; and there where single lines are preferred.
+const DESCRIPTIONS: [(&str, &str, &str); 11] = [
+    ("\"x\"", "\"\"\"\nx\n\"\"\"", "\"x\""),
+    ("\"\"", "\"\"\"\n\n\"\"\"", "\"\""),
+    ("\"a \"", "\"\"\"\na \n\"\"\"", "\"a \""),
+    ("\"a\\nb\"", "\"\"\"\na\nb\n\"\"\"", "\"\"\"\na\nb\n\"\"\""),
+    ("\"a\\\\b\"", "\"\"\"\na\\b\n\"\"\"", "\"a\\\\b\""),
+    ("\"\\\"\\\"\\\"\"", "\"\\\"\\\"\\\"\"", "\"\\\"\\\"\\\"\""),
+    ("\"\\na\"", "\"\\na\"", "\"\\na\""),
+    ("\"a\\n  \"", "\"a\\n  \"", "\"a\\n  \""),
+    ("\" a\"", "\" a\"", "\" a\""),
+    ("\"a\\r\\nb\"", "\"a\\r\\nb\"", "\"a\\r\\nb\""),
+    ("\"\\u0001\"", "\"\\u0001\"", "\"\\u0001\""),
+];
+
+/// A document whose scalar has this description.
+fn described(rt: &impl Abort, alloc: Global, description: &str) -> String {
+    got(
+        rt,
+        format!(in alloc; "{description} scalar D type Query{{v:Int}}"),
+    )
+}
+
+/// What a text begins with whose scalar has this description.
+fn beginning(rt: &impl Abort, alloc: Global, description: &str) -> String {
+    got(
+        rt,
+        format!(in alloc; "{description}\nscalar D\n\ntype Query {{\n"),
+    )
+}
+
+/// Asserts that a text begins with the scalar of this description.
+fn begins(rt: &impl Abort, alloc: Global, text: &str, description: &str) {
+    let beginning = beginning(rt, alloc, description);
+    assert!(rt; text.starts_with(beginning.as_str()), "of {description}");
+}
+
+#[test]
+fn a_description_is_a_block_where_that_reads_back(rt: HostRuntime) {
+    let single = SDLExportOptions::new().prefer_single_line_descriptions();
+    for (written, block, line) in DESCRIPTIONS {
+        let document = described(&rt, rt.alloc(), written);
+        let text = told(&rt, rt.alloc(), document.as_str(), SDLExportOptions::new());
+        begins(&rt, rt.alloc(), text.as_str(), block);
+        let text = told(&rt, rt.alloc(), document.as_str(), single);
+        begins(&rt, rt.alloc(), text.as_str(), line);
+        is_read_again(&rt, rt.alloc(), document.as_str());
     }
 }
 

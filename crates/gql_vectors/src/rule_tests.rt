@@ -1,13 +1,15 @@
 //! The rules of a schema, each with the sentence that reports it: section 3 of the GraphQL specification, October 2021.
 
+use crate::program_tests::is_refused;
 use crate::publish_tests::is_told;
 use std::alloc::Global;
 use std::process::Abort;
 
-/// Asserts that each document is refused with its sentence.
+/// Asserts that the library and the program refuse each document with its sentence.
 fn are_refused(rt: &impl Abort, alloc: Global, cases: &[(&str, &str)]) {
     for (document, sentence) in cases {
         is_told(rt, alloc, document, sentence);
+        is_refused(rt, alloc, document, sentence);
     }
 }
 
