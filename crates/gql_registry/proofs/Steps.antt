@@ -10,11 +10,11 @@ use Rattle.std.specs.Ordering.{is_eq}
 use Rattle.std.proofs.lemmas.List.Sums.{fold_more}
 use Rattle.std.proofs.Math.ListN.{get_or-map}
 use Rattle.std.proofs.lemmas.List.{take_all, length-map}
-use Rattle.gql_registry_meta.specs.Parts.{Text, at_text, text_cmp, Field}
+use Rattle.gql_registry_meta.specs.Parts.{Text, at_text, text_cmp, Meta}
 use Rattle.gql_registry_meta.specs.Views.{entries_of, meta_of}
 use Rattle.gql_registry_meta.specs.declared.meta_type.MetaType.{MetaType}
-use Rattle.gql_registry.specs.Registry.{Contents, with_possible, with_possible_type}
-use Rattle.gql_registry.specs.Additions.{made, all_made, object_with, with_query_field}
+use Rattle.gql_registry.specs.Registry.{Contents, changed_at}
+use Rattle.gql_registry.specs.Additions.{made, all_made}
 use Rattle.gql_registry.specs.Tables.{step_of}
 use Rattle.gql_registry.specs.declared.additions.Addition.{Addition}
 use Rattle.gql_registry_meta.proofs.Entries.{sorted_at_text, found_at, missing_at, written}
@@ -38,31 +38,18 @@ module _ {A B : Type 0} (f : A → B) (t : Text) (es : List (String Global × A)
   pub new : is_some (lookup (λ k. is_eq (text_cmp t (string_bytes k))) es) ≡ false → option_map_or (λ _. entries_of f es) (at_text t (entries_of f es)) other ≡ other
   new p = ap (λ o. option_map_or (λ _. entries_of f es) o other) (sym (sorted_at_text f t es)) ∙ new-by (lookup (λ k. is_eq (text_cmp t (string_bytes k))) es) p
 
--- ---- a field of the query root
+-- ---- a change of one type
 
-module _ {x g : _} (t : Text) (es : List (String Global × MetaType x g)) (field : Field) where
-  pub field_written : (new : List (String Global × MetaType x g)) (v w : MetaType x g) → Some v ≡ lookup (λ k. is_eq (text_cmp t (string_bytes k))) es → new ≡ set_value (λ k. is_eq (text_cmp t (string_bytes k))) es w
-      → meta_of w ≡ object_with field (meta_of v) → entries_of meta_of new ≡ with_query_field t (entries_of meta_of es) field
-  field_written new v w found n more =
+module _ {x g : _} (t : Text) (change : Meta → Meta) (es : List (String Global × MetaType x g)) where
+  pub changed : (new : List (String Global × MetaType x g)) (v w : MetaType x g) → Some v ≡ lookup (λ k. is_eq (text_cmp t (string_bytes k))) es → new ≡ set_value (λ k. is_eq (text_cmp t (string_bytes k))) es w
+      → meta_of w ≡ change (meta_of v) → entries_of meta_of new ≡ changed_at t change (entries_of meta_of es)
+  changed new v w found n more =
       written meta_of t es new w n
       ∙ ap (set_value (bytes_eq t) (entries_of meta_of es)) more
-      ∙ sym (ap (λ o. option_map_or (λ type. set_value (bytes_eq t) (entries_of meta_of es) (object_with field type)) o (entries_of meta_of es)) (found_at meta_of t es v found))
+      ∙ sym (ap (λ o. option_map_or (λ type. set_value (bytes_eq t) (entries_of meta_of es) (change type)) o (entries_of meta_of es)) (found_at meta_of t es v found))
 
-  pub no_query : None ≡ lookup (λ k. is_eq (text_cmp t (string_bytes k))) es → with_query_field t (entries_of meta_of es) field ≡ entries_of meta_of es
-  no_query e = ap (λ o. option_map_or (λ type. set_value (bytes_eq t) (entries_of meta_of es) (object_with field type)) o (entries_of meta_of es)) (missing_at meta_of t es e)
-
--- ---- a possible type
-
-module _ {x g : _} (t : Text) (es : List (String Global × MetaType x g)) (possible : Text) where
-  pub possible_written : (new : List (String Global × MetaType x g)) (v w : MetaType x g) → Some v ≡ lookup (λ k. is_eq (text_cmp t (string_bytes k))) es → new ≡ set_value (λ k. is_eq (text_cmp t (string_bytes k))) es w
-      → meta_of w ≡ with_possible possible (meta_of v) → entries_of meta_of new ≡ with_possible_type t (entries_of meta_of es) possible
-  possible_written new v w found n more =
-      written meta_of t es new w n
-      ∙ ap (set_value (bytes_eq t) (entries_of meta_of es)) more
-      ∙ sym (ap (λ o. option_map_or (λ type. set_value (bytes_eq t) (entries_of meta_of es) (with_possible possible type)) o (entries_of meta_of es)) (found_at meta_of t es v found))
-
-  pub no_type : None ≡ lookup (λ k. is_eq (text_cmp t (string_bytes k))) es → with_possible_type t (entries_of meta_of es) possible ≡ entries_of meta_of es
-  no_type e = ap (λ o. option_map_or (λ type. set_value (bytes_eq t) (entries_of meta_of es) (with_possible possible type)) o (entries_of meta_of es)) (missing_at meta_of t es e)
+  pub none_changed : None ≡ lookup (λ k. is_eq (text_cmp t (string_bytes k))) es → changed_at t change (entries_of meta_of es) ≡ entries_of meta_of es
+  none_changed e = ap (λ o. option_map_or (λ type. set_value (bytes_eq t) (entries_of meta_of es) (change type)) o (entries_of meta_of es)) (missing_at meta_of t es e)
 
 -- ---- steps
 

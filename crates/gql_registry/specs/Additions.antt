@@ -1,10 +1,8 @@
 -- What is added to a registry step by step.
 use Rattle.std.specs.Prelude.{◌≡◌, ℕ, List, ◌++◌, map, fold, take}
 use Rattle.std.specs.Option.{option_map_or}
-use Rattle.std.specs.Map.{set_value}
-use Rattle.std.specs.Str.{bytes_eq}
 use Rattle.gql_registry_meta.specs.Parts.{Text, at_text, Field, Directive, Meta, object, name_of, with_entry_in_place}
-use Rattle.gql_registry.specs.Registry.{Contents, registry_of, with_type, with_directive, with_all_implements, with_possible_type}
+use Rattle.gql_registry.specs.Registry.{Contents, registry_of, changed_at, with_type, with_directive, with_all_implements, with_possible_type}
 use Rattle.gql_registry.specs.System.{system_directives, system_scalars}
 use Rattle.gql_registry.specs.Introspection.{introspection_types, query_fields}
 use Rattle.gql_registry.specs.declared.registry.Registry.{Registry}
@@ -20,7 +18,7 @@ object_with field type = type
 
 -- the types, where the one under this name has a field more if it is an object
 abbrev pub with_query_field : Text → List (Text × Meta) → Field → List (Text × Meta)
-with_query_field query types field = option_map_or (λ type. set_value (bytes_eq query) types (object_with field type)) (at_text query types) types
+with_query_field query types field = changed_at query (object_with field) types
 
 -- the types with another, where none stands under its name
 abbrev pub with_missing : List (Text × Meta) → Meta → List (Text × Meta)

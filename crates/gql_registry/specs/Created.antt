@@ -1,12 +1,12 @@
 -- Types that are made where they are missing.
-use Rattle.std.specs.Prelude.{◌≡◌, ◌≢◌, Bool, true, false, not, None, Some}
+use Rattle.std.specs.Prelude.{◌≡◌, ◌≢◌, Bool, true, false, not, List, None, Some}
 use Rattle.std.specs.declared.result.Result.{Result}
 use Rattle.std.specs.declared.result.Result.TheVariants.{Ok, Err}
 use Rattle.std.specs.Borrow.{MutBor}
 use Rattle.std.specs.Fn.{Mut, CalledAtMut}
 use Rattle.std.specs.List.{filter}
 use Rattle.std.specs.Str.{bytes_eq}
-use Rattle.gql_registry_meta.specs.Parts.{Text, at_text, Meta, name_of}
+use Rattle.gql_registry_meta.specs.Parts.{Text, at_text, is_among, Meta, name_of}
 use Rattle.gql_registry_meta.specs.Kinds.{kind_of}
 use Rattle.gql_registry_meta.specs.declared.type_id.MetaTypeId.{MetaTypeId}
 use Rattle.gql_registry.specs.Registry.{Contents, with_type}
@@ -21,6 +21,10 @@ with_made before type = record before { types = with_type before.types type }
 -- the registry with the types under other names alone
 abbrev pub without : Contents → Text → Contents
 without before name = record before { types = filter (λ entry. not (bytes_eq name entry.0)) before.types }
+
+-- the same without the types under several names
+abbrev pub without_all : Contents → List Text → Contents
+without_all before names = record before { types = filter (λ entry. not (is_among entry.0 names)) before.types }
 
 -- a type of this kind stands under the name
 abbrev pub StandsAs : Text → MetaTypeId → Contents → Type 0

@@ -122,6 +122,10 @@ with_possible name (meta.interface type) = meta.interface (record type { possibl
 with_possible name (meta.union type) = meta.union (record type { possible_types = with_name type.possible_types name })
 with_possible name type = type
 
+-- the types, where the one under the name is changed
+abbrev pub changed_at : Text → (Meta → Meta) → List (Text × Meta) → List (Text × Meta)
+changed_at name change types = option_map_or (λ type. set_value (bytes_eq name) types (change type)) (at_text name types) types
+
 -- the types, where the one under the first name has the second as a possible type more if it is an interface or a union
 abbrev pub with_possible_type : Text → List (Text × Meta) → Text → List (Text × Meta)
-with_possible_type name types possible = option_map_or (λ type. set_value (bytes_eq name) types (with_possible possible type)) (at_text name types) types
+with_possible_type name types possible = changed_at name (with_possible possible) types

@@ -146,7 +146,7 @@ impl Registry {
     }
 
     /// Takes out what stands under a name.
-    fn take_out(&mut self, name: &str)
+    pub(crate) fn take_out(&mut self, name: &str)
         ensures { registry_of self.new ≡ without (registry_of self.old) name.now }
     {
         self.types.remove(name);

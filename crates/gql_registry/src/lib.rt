@@ -9,6 +9,8 @@
 #![tactic(auto)]
 
 mod additions;
+mod asking;
+mod changing;
 mod creating;
 mod fakes;
 mod introspection;
@@ -23,6 +25,7 @@ mod system;
 mod type_traits;
 
 pub use creating::CreatesTypes;
+pub use gql_registry_closures::is_system_name;
 pub use gql_registry_meta::{
     CacheControl, ConstValue, Context, Deprecation, DirectiveLocation, Everything,
     IntrospectionMode, MetaDirective, MetaDirectiveInvocation, MetaEnumValue, MetaField,

@@ -1,5 +1,5 @@
 -- Names that are kept, and lists of them.
-use Rattle.std.proofs.Common.{◌⊎◌, inl, inr, ◌≡◌, Bool, true, false, ◌&&◌, ◌||◌, cond, List, [], ◌∷◌, ◌++◌, map, filter, append_assoc, refl, ap, sym, ◌∙◌}
+use Rattle.std.proofs.Common.{arith, Bor, ℕ, suc, ◌+◌, ◌<◌, length, get_or, take, ◌⊎◌, inl, inr, ◌≡◌, Bool, true, false, ◌&&◌, ◌||◌, cond, List, [], ◌∷◌, ◌++◌, map, filter, append_assoc, refl, ap, sym, ◌∙◌}
 use Rattle.std.proofs.lemmas.Bool.{false≢true, and_from, and_parts, or_cases}
 use Rattle.std.proofs.lemmas.List.Folds.{list_any-append}
 use Rattle.std.proofs.lemmas.Map.Text.{is_eq-slice_cmp}
@@ -14,18 +14,20 @@ use Rattle.std.specs.declared.cmp.Ordering.TheVariants.{Less, Equal, Greater}
 use Rattle.std.specs.declared.string.String.{String}
 use Rattle.std.specs.declared.alloc.Global.{Global}
 use Rattle.std.specs.Str.{bytes_eq}
-use Rattle.gql_registry_meta.specs.Parts.{Text, is_among}
-use Rattle.gql_registry_meta.specs.Views.{text_of}
+use Rattle.gql_registry_meta.specs.Parts.{Text, text_cmp, is_among}
+use Rattle.gql_registry_meta.specs.Views.{text_of, texts_in}
+use Rattle.gql_registry_meta.proofs.Borrowed.{texts_last}
+use Rattle.std.proofs.Math.Seq.{take-suc}
 use Rattle.gql_registry_closures.specs.Reached.{is_system_name}
 use Rattle.gql_registry_closures.specs.Answers.{Tells, Leaves, HoldsExactly}
 use Rattle.gql_registry_closures.specs.Walk.{is_name_marked, is_name_kept, left_of}
 use Rattle.gql_registry_closures.proofs.Places.{same_text}
 
-or_left : (a b : Bool) → a ≡ true → (a || b) ≡ true
+pub or_left : (a b : Bool) → a ≡ true → (a || b) ≡ true
 or_left true b e = refl
 or_left false b e = absurd (false≢true e)
 
-or_right : (a b : Bool) → b ≡ true → (a || b) ≡ true
+pub or_right : (a b : Bool) → b ≡ true → (a || b) ≡ true
 or_right true b e = refl
 or_right false b e = e
 
@@ -149,3 +151,28 @@ distinct_texts (k ∷ ks) h = (apart_texts k ks h.0, distinct_texts ks h.1)
 -- names that ascend are distinct
 pub ascending_distinct : (ks : List (String Global)) → IsStrictlySortedBy string_cmp ks → IsDistinct bytes_eq (map text_of ks)
 ascending_distinct ks h = distinct_texts ks (IsDistinct-from_sorted string_cmp ks h)
+
+-- ---- the texts of a list, each once
+
+pub ordered_texts : (ks : List (String Global)) → IsStrictlySortedBy string_cmp ks → IsStrictlySortedBy text_cmp (map text_of ks)
+unfolding IsStrictlySortedBy
+ordered_texts [] h = tt
+ordered_texts (k ∷ ks) h = (below k ks h.0, ordered_texts ks h.1)
+  where
+    below : (k : String Global) (ks : List (String Global)) → AllByRecursion (λ q. string_cmp k q ≡ Less) ks → AllByRecursion (λ t. text_cmp (text_of k) t ≡ Less) (map text_of ks)
+    below k [] a = tt
+    below k (q ∷ qs) a = (a.0, below k qs a.1)
+
+-- one text more of a list
+pub taken_more : (xs : List (Bor Text)) (i : ℕ) (d : Bor Text) → i < length xs → texts_in (take (i + 1) xs) ≡ texts_in (take i xs) ++ (get_or xs i d).now ∷ []
+taken_more xs i d below =
+    let step : i + 1 ≡ suc i = search (arith) in
+    ap (λ n. texts_in (take n xs)) step ∙ ap texts_in (take-suc xs i d below) ∙ texts_last (take i xs) (get_or xs i d)
+
+pub set_more : (other : Text) (before : List (String Global)) (xs : List (Bor Text)) (i : ℕ) (d : Bor Text) (k : String Global) → i < length xs → text_of k ≡ (get_or xs i d).now → is_among other (map text_of before) ≡ is_among other (texts_in (take i xs)) → is_among other (map text_of (insert_key string_cmp before k)) ≡ is_among other (texts_in (take (i + 1) xs))
+set_more other before xs i d k below same h =
+    inserted other before k
+    ∙ ap (λ b. b || is_among other (text_of k ∷ [])) h
+    ∙ ap (λ t. is_among other (texts_in (take i xs)) || is_among other (t ∷ [])) same
+    ∙ sym (list_any-append (bytes_eq other) (texts_in (take i xs)) ((get_or xs i d).now ∷ []))
+    ∙ ap (is_among other) (sym (taken_more xs i d below))

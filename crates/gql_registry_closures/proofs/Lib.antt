@@ -6,3 +6,4 @@ pub mod Chains
 pub mod Interfaces
 pub mod Whole
 pub mod Kept
+pub mod Again

@@ -1,8 +1,8 @@
 -- Lists that are made piece by piece, and the places of names.
-use Rattle.std.proofs.Common.{arith, Bor, ◌≡◌, ◌+◌, not, ℕ, suc, Bool, true, false, cond, if◌then◌else◌, List, [], ◌∷◌, ◌++◌, map, flat_map, length, refl, ap, sym, ◌∙◌, append_assoc, append-nil, Some, None, nat_lt, Vec}
+use Rattle.std.proofs.Common.{arith, Bor, ◌≡◌, ◌+◌, ◌||◌, not, ℕ, suc, Bool, true, false, cond, if◌then◌else◌, List, [], ◌∷◌, ◌++◌, map, flat_map, length, refl, ap, sym, ◌∙◌, append_assoc, append-nil, Some, None, nat_lt, Vec}
 use Rattle.std.proofs.lemmas.Bool.{ltb-true, ltb-false, lt-ltb, le-ltb}
 use Rattle.std.proofs.lemmas.List.Concat.{flat_map-append}
-use Rattle.std.specs.List.{position, position_or_len}
+use Rattle.std.specs.List.{list_any, position, position_or_len}
 use Rattle.std.specs.Map.{values_of}
 use Rattle.std.specs.Option.{option_map}
 use Rattle.std.specs.Str.{bytes_eq}
@@ -55,7 +55,12 @@ flat_map_after f h (x ∷ xs) = ap (λ l. h (f x) ++ l) (flat_map_after f h xs)
 pub map_viewed : {A B C : Type 0} (f : A → B) (h : B → C) (es : List (String Global × A)) → map (λ x. h (f x)) (values_of es) ≡ map h (values_of (entries_of f es))
 map_viewed f h es = map_twice f h (values_of es) ∙ ap (map h) (sym (values_viewed f es))
 
-flat_map_viewed : {A B C : Type 0} (f : A → B) (h : B → List C) (es : List (String Global × A)) → flat_map (λ x. h (f x)) (values_of es) ≡ flat_map h (values_of (entries_of f es))
+-- a test of the values of entries, by what they stand for
+pub any_viewed : {A B : Type 0} (f : A → B) (p : B → Bool) (es : List (String Global × A)) → list_any (λ x. p (f x)) (values_of es) ≡ list_any p (values_of (entries_of f es))
+any_viewed f p [] = refl
+any_viewed f p (e ∷ es) = ap (λ b. p (f e.1) || b) (any_viewed f p es)
+
+pub flat_map_viewed : {A B C : Type 0} (f : A → B) (h : B → List C) (es : List (String Global × A)) → flat_map (λ x. h (f x)) (values_of es) ≡ flat_map h (values_of (entries_of f es))
 flat_map_viewed f h es = flat_map_after f h (values_of es) ∙ ap (flat_map h) (sym (values_viewed f es))
 
 -- the same of whole entries

@@ -1,5 +1,7 @@
 pub mod Links
 pub mod Reached
 pub mod Answers
+pub mod Names
+pub mod Changes
 pub mod Table
 pub mod Walk

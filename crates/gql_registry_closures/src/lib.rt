@@ -2,10 +2,14 @@
 //! vectors.
 #![tactic(auto)]
 
+mod changes;
 mod edges;
 mod names;
+mod naming;
 mod numbers;
 mod search;
 mod table;
 
+pub use changes::{add_key, describe, has_entities};
+pub use naming::all_names;
 pub use names::{is_system_name, unused_names, visible_names};

@@ -56,7 +56,7 @@ fn add_roots(
 }
 
 /// Whether the type is an object or an interface with a key.
-fn has_key(ty: &MetaType) -> bool
+pub(crate) fn has_key(ty: &MetaType) -> bool
     ensures { result ≡ has_key (meta_of ty.now) }
 {
     match ty {

@@ -4,7 +4,7 @@ use Rattle.gql_registry_meta.specs.Views.{text_of, meta_of, entries_of}
 use Rattle.gql_registry.specs.Registry.{registry_of, types_of, with_possible, with_possible_type}
 use Rattle.gql_registry_meta.proofs.Entries.{written_back}
 use Rattle.gql_registry.proofs.OwnNames.{types_written}
-use Rattle.gql_registry.proofs.Steps.{possible_written, no_type}
+use Rattle.gql_registry.proofs.Steps.{changed, none_changed}
 use Rattle.gql_registry.proofs.registry.Registry.add_possible_type.Goals as goal
 
 pub returns-in-Some-clause-contents : goal.returns-in-Some-clause-contents
@@ -17,7 +17,7 @@ returns-in-Some-clause-contents g c =
     on_ok_weaker c.add_possible.result
     (λ (more : meta_of w ≡ with_possible (text_of c.in_ok-object.object) (meta_of v)).
     ap (λ types. record before { types = types })
-    (possible_written name c.args.self.now.types.entries (text_of c.in_ok-object.object) (c.get_mut.follows.lender w).entries v w c.in-Some.ensures.value (c.get_mut.follows.holds w).0 more
+    (changed name (with_possible (text_of c.in_ok-object.object)) c.args.self.now.types.entries (c.get_mut.follows.lender w).entries v w c.in-Some.ensures.value (c.get_mut.follows.holds w).0 more
     ∙ ap (with_possible_type name types) c.in_ok-object.ensures.ok))
     c.add_possible.ensures.possible
 
@@ -39,7 +39,7 @@ returns-in-None-clause-contents g c =
     let name = c.args.interface.now in
     ap (λ types. record before { types = types })
     (ap (λ m. entries_of meta_of m.entries) c.get_mut.follows.holds-at-none
-    ∙ sym (no_type name c.args.self.now.types.entries (text_of c.in_ok-object.object) c.in-None.ensures.value)
+    ∙ sym (none_changed name (with_possible (text_of c.in_ok-object.object)) c.args.self.now.types.entries c.in-None.ensures.value)
     ∙ ap (with_possible_type name types) c.in_ok-object.ensures.ok)
 
 pub invariant_of-self-clause-own_types : goal.invariant_of-self-clause-own_types

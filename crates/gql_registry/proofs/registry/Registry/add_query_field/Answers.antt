@@ -5,7 +5,7 @@ use Rattle.gql_registry.specs.Registry.{registry_of, types_of}
 use Rattle.gql_registry.specs.Additions.{with_query_field, object_with}
 use Rattle.gql_registry_meta.proofs.Entries.{written_back}
 use Rattle.gql_registry.proofs.OwnNames.{types_written}
-use Rattle.gql_registry.proofs.Steps.{field_written, no_query}
+use Rattle.gql_registry.proofs.Steps.{changed, none_changed}
 use Rattle.gql_registry.proofs.registry.Registry.add_query_field.Goals as goal
 
 pub returns-in-Some-clause-made : goal.returns-in-Some-clause-made
@@ -18,7 +18,7 @@ returns-in-Some-clause-made g c =
     on_ok_weaker c.add_field.result
     (λ (more : meta_of w ≡ object_with field (meta_of v)).
     ap (λ types. record before { types = types })
-    (field_written c.as_str.result.now c.args.self.now.types.entries field (c.get_mut.follows.lender w).entries v w c.in-Some.ensures.value (c.get_mut.follows.holds w).0 more
+    (changed c.as_str.result.now (object_with field) c.args.self.now.types.entries (c.get_mut.follows.lender w).entries v w c.in-Some.ensures.value (c.get_mut.follows.holds w).0 more
     ∙ ap (λ t. with_query_field t types field) c.as_str.ensures.value))
     c.add_field.ensures.field
 
@@ -40,7 +40,7 @@ returns-in-None-clause-made g c =
     let field = field_of c.args.field in
     ap (λ types. record before { types = types })
     (ap (λ m. entries_of meta_of m.entries) c.get_mut.follows.holds-at-none
-    ∙ sym (no_query c.as_str.result.now c.args.self.now.types.entries field c.in-None.ensures.value)
+    ∙ sym (none_changed c.as_str.result.now (object_with field) c.args.self.now.types.entries c.in-None.ensures.value)
     ∙ ap (λ t. with_query_field t types field) c.as_str.ensures.value)
 
 pub invariant_of-self-clause-own_types : goal.invariant_of-self-clause-own_types
