@@ -106,9 +106,9 @@ one_out before names name =
     ap (λ types. record before { types = types })
     (filter_twice (λ (e : Text × Meta). not (is_among e.0 names)) (λ (e : Text × Meta). not (bytes_eq name e.0)) before.types
     ∙ filter_equal _ _ (λ (e : Text × Meta).
-      ap (λ b. not (is_among e.0 names) && not b) (eq_swap name e.0)
-      ∙ apart (is_among e.0 names) (bytes_eq e.0 name)
-      ∙ ap not (sym (list_any-append (bytes_eq e.0) names (name ∷ [])))) before.types)
+    ap (λ b. not (is_among e.0 names) && not b) (eq_swap name e.0)
+    ∙ apart (is_among e.0 names) (bytes_eq e.0 name)
+    ∙ ap not (sym (list_any-append (bytes_eq e.0) names (name ∷ [])))) before.types)
 
 -- one name more of a list
 pub out_more : (before : Contents) (xs : List (String Global)) (i : ℕ) (d : String Global) → i < length xs
@@ -139,8 +139,8 @@ left_pass before test =
     ap (λ types. record before { types = types })
     (filter_alike (λ (e : Text × Meta). not (is_among e.0 out)) (λ (e : Text × Meta). test e.0) before.types
     (by_names (λ t. not (is_among t out) ≡ test t) before.types (λ t m.
-      ap not (among_filter (λ (name : Text). not (test name)) t names ∙ ap (λ b. b && not (test t)) m)
-      ∙ not_twice (test t))))
+    ap not (among_filter (λ (name : Text). not (test name)) t names ∙ ap (λ b. b && not (test t)) m)
+    ∙ not_twice (test t))))
 
 -- the registry without the names that are left is the one that keeps what is used
 pub removed : (before after : Contents) (names : List Text) → Leaves (Kept (parts_in before)) (keys_of before.types) names → after ≡ without_all before names → KeepsUsed before after
@@ -157,7 +157,7 @@ kept_once before after third (test, tells, e) (test2, tells2, e2) =
     let left = with_types_that test before in
     let again : Tells test2 (Kept (parts_in left)) = subst (λ (contents : Contents). Tells test2 (Kept (parts_in contents))) e tells2 in
     let passes = by_names (λ t. test2 t ≡ true) left.types (λ t m.
-      (again t).1 (kept_still (parts_in before) test tells t (names_pass test t before.types m))) in
+    (again t).1 (kept_still (parts_in before) test tells t (names_pass test t before.types m))) in
     e2 ∙ ap (with_types_that test2) e
     ∙ ap (λ types. record left { types = types }) (filter_alike (λ (x : Text × Meta). test2 x.0) (λ _. true) left.types passes ∙ all_pass left.types)
     ∙ sym e

@@ -56,12 +56,7 @@ impl Registry {
             (keys_of (types_of self.now)) (texts_of names)) }
     {
         let roots = self.roots()?;
-        let names = unused_names(
-            self.allocator(),
-            self.types(),
-            self.directives(),
-            &roots,
-        )?;
+        let names = unused_names(self.allocator(), self.types(), self.directives(), &roots)?;
         Ok(names)
     }
 

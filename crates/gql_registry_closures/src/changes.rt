@@ -13,11 +13,7 @@ use std::alloc::Global;
 use std::collections::BTreeMap;
 
 /// Adds a key, the last.
-fn push_key(
-    alloc: Global,
-    keys: &mut Option<Vec<String>>,
-    key: String,
-) -> Result<(), OutOfMemory>
+fn push_key(alloc: Global, keys: &mut Option<Vec<String>>, key: String) -> Result<(), OutOfMemory>
     ensures key { OnOk result (option_map texts_of keys.new
         ≡ keys_with (option_map texts_of keys.old) (text_of key)) }
     ensures err { OnErr result (option_map texts_of keys.new ≡ option_map texts_of keys.old) }

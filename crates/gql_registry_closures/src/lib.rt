@@ -11,5 +11,5 @@ mod search;
 mod table;
 
 pub use changes::{add_key, describe, has_entities};
-pub use naming::all_names;
 pub use names::{is_system_name, unused_names, visible_names};
+pub use naming::all_names;
