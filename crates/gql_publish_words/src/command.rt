@@ -1,4 +1,5 @@
 //! The command line of the program, and what it makes of words.
+#![tactic(auto, unfolding(crate::specs::Words::the_command))]
 
 ghost use Rattle.std.specs.Prelude.{◌≡◌, ◌≢◌, IfOk, IsErrOf, map, option_map, false};
 ghost use Rattle.clap.specs.Simple.{app_of, with_rule};
@@ -54,7 +55,6 @@ fn with_orders<'a>(alloc: Global, command: Command<'a>) -> Result<Command<'a>, A
     Ok(command)
 }
 
-#[tactic(auto, unfolding(crate::specs::Words::the_command))]
 fn command<'a>(alloc: Global) -> Result<Command<'a>, AllocError>
     ensures { IfOk result (λ command. app_of command ≡ the_command) }
 {
