@@ -1,0 +1,73 @@
+//! A registry with hidden parts: which of its types a reader may see.
+
+use gql_check::{BuildError, Field, Object, OutOfMemory, TypeRef};
+use gql_registry::{Context, MetaType, Registry};
+use std::alloc::Global;
+
+/// The rule that holds for the staff alone.
+const STAFF: u32 = 1;
+
+/// A reader, who is of the staff or not.
+#[derive(Drop)]
+struct Reader {
+    is_staff: bool,
+}
+
+impl Context for Reader {
+    ghost use Rattle.std.specs.Prelude.{◌&&◌, nat_eq};
+
+    ghost rules = { λ reader rule. reader.is_staff && nat_eq rule 1 };
+
+    fn holds(&self, rule: u32) -> bool {
+        self.is_staff && rule == STAFF
+    }
+}
+
+/// `type NAME { FIELD: TYPE }`
+fn object(alloc: Global, name: &str, field: &str, ty: &str) -> Result<Object, BuildError> {
+    let field = Field::new(alloc, field, TypeRef::named(alloc, ty)?)?;
+    Object::new(alloc, name)?.field(field)
+}
+
+/// Shows an object where the rule of the staff holds.
+fn hide(ty: &mut MetaType) {
+    if let MetaType::Object { visible, .. } = ty {
+        *visible = Some(STAFF);
+    }
+}
+
+/// Puts `type Query { salary: Salary }` and `type Salary { amount: Int }`, which is hidden, into a registry.
+fn fill(registry: &mut Registry) -> Result<(), BuildError> {
+    let alloc = registry.allocator();
+    let query = object(alloc, "Query", "salary", "Salary")?.meta(alloc)?;
+    let mut salary = object(alloc, "Salary", "amount", "Int")?.meta(alloc)?;
+    hide(&mut salary);
+    registry.insert_type(query)?;
+    registry.insert_type(salary)?;
+    registry.set_query_type("Query")?;
+    Ok(())
+}
+
+/// Adds a line with the names of the types that a reader may see.
+fn push_seen(out: &mut String, registry: &Registry, is_staff: bool) -> Result<(), OutOfMemory> {
+    out.push_str(if is_staff {
+        "the staff sees"
+    } else {
+        "a guest sees"
+    })?;
+    for name in registry.find_visible_types(&Reader { is_staff })?.iter() {
+        out.push_str(" ")?;
+        out.push_str(name.as_str())?;
+    }
+    out.push_str("\n")?;
+    Ok(())
+}
+
+pub(crate) fn example(alloc: Global) -> Option<String> {
+    let mut registry = Registry::new(alloc);
+    fill(&mut registry).ok()?;
+    let mut out = String::new(alloc);
+    push_seen(&mut out, &registry, false).ok()?;
+    push_seen(&mut out, &registry, true).ok()?;
+    Some(out)
+}
