@@ -13,7 +13,7 @@ use Rattle.std.specs.declared.alloc.Global.{Global}
 use Rattle.gql_registry_meta.specs.Parts.{Text, at_text, is_among, Meta, Directive}
 use Rattle.gql_registry_meta.specs.Views.{text_of}
 use Rattle.gql_registry_closures.specs.Links.{Parts}
-use Rattle.gql_registry_closures.specs.Reached.{Kept}
+use Rattle.gql_registry_closures.specs.Reached.{Needed}
 use Rattle.gql_registry_closures.specs.Answers.{Tells, Leaves}
 use Rattle.gql_registry_closures.proofs.Kept.{among_filter}
 use Rattle.gql_registry_closures.proofs.Places.{same_text, text_same}
@@ -143,11 +143,11 @@ left_pass before test =
     ∙ not_twice (test t))))
 
 -- the registry without the names that are left is the one that keeps what is used
-pub removed : (before after : Contents) (names : List Text) → Leaves (Kept (parts_in before)) (keys_of before.types) names → after ≡ without_all before names → KeepsUsed before after
+pub removed : (before after : Contents) (names : List Text) → Leaves (Needed (parts_in before)) (keys_of before.types) names → after ≡ without_all before names → KeepsUsed before after
 removed before after names (test, tells, e) out = (test, tells, out ∙ ap (without_all before) e ∙ left_pass before test)
 
 -- a type that is kept stands as it stood
-pub kept_stays : (before after : Contents) → KeepsUsed before after → (name : Text) → Kept (parts_in before) name → at_text name after.types ≡ at_text name before.types
+pub kept_stays : (before after : Contents) → KeepsUsed before after → (name : Text) → Needed (parts_in before) name → at_text name after.types ≡ at_text name before.types
 kept_stays before after (test, tells, e) name k =
     ap (λ (contents : Contents). at_text name contents.types) e ∙ stays test name ((tells name).1 k) before.types
 
@@ -155,7 +155,7 @@ kept_stays before after (test, tells, e) name k =
 pub kept_once : (before after third : Contents) → KeepsUsed before after → KeepsUsed after third → third ≡ after
 kept_once before after third (test, tells, e) (test2, tells2, e2) =
     let left = with_types_that test before in
-    let again : Tells test2 (Kept (parts_in left)) = subst (λ (contents : Contents). Tells test2 (Kept (parts_in contents))) e tells2 in
+    let again : Tells test2 (Needed (parts_in left)) = subst (λ (contents : Contents). Tells test2 (Needed (parts_in contents))) e tells2 in
     let passes = by_names (λ t. test2 t ≡ true) left.types (λ t m.
     (again t).1 (kept_still (parts_in before) test tells t (names_pass test t before.types m))) in
     e2 ∙ ap (with_types_that test2) e

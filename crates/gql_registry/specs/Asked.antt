@@ -3,7 +3,7 @@ use Rattle.std.specs.Prelude.{◌≡◌, Bool, List, [], ◌∷◌, ◌++◌, fi
 use Rattle.std.specs.Option.{option_map_or}
 use Rattle.gql_registry_meta.specs.Parts.{Text}
 use Rattle.gql_registry_closures.specs.Links.{Parts}
-use Rattle.gql_registry_closures.specs.Reached.{Kept}
+use Rattle.gql_registry_closures.specs.Reached.{Needed}
 use Rattle.gql_registry_closures.specs.Answers.{Tells}
 use Rattle.gql_registry.specs.Registry.{Contents}
 
@@ -29,4 +29,4 @@ with_types_that test before = record before { types = filter (λ entry. test ent
 
 -- The registry without the types that are neither system types nor used; all else stays.
 abbrev pub KeepsUsed : Contents → Contents → Type 0
-KeepsUsed before after = (test : Text → Bool) × Tells test (Kept (parts_in before)) × (after ≡ with_types_that test before)
+KeepsUsed before after = (test : Text → Bool) × Tells test (Needed (parts_in before)) × (after ≡ with_types_that test before)

@@ -4,7 +4,7 @@ ghost use Rattle.std.specs.Prelude.{◌≡◌, IfOk, OnOk, OnErr, map};
 ghost use Rattle.std.specs.Map.{keys_of};
 ghost use Rattle.gql_registry_meta.specs.Parts.{at_text};
 ghost use Rattle.gql_registry_meta.specs.Views.{text_of, texts_of};
-ghost use Rattle.gql_registry_closures.specs.Reached.{Kept};
+ghost use Rattle.gql_registry_closures.specs.Reached.{Needed};
 ghost use Rattle.gql_registry_closures.specs.Answers.{Leaves};
 ghost use Rattle.gql_registry_closures.specs.Changes.{with_key, described};
 ghost use Rattle.gql_registry.specs.Registry.{Contents, registry_of, types_of, changed_at, IsUnchanged};
@@ -52,7 +52,7 @@ impl Registry {
 
     /// The names of the types that are neither used nor system types.
     fn unused(&self) -> Result<Vec<String>, OutOfMemory>
-        ensures { IfOk result (λ names. Leaves (Kept (parts_in (registry_of self.now)))
+        ensures { IfOk result (λ names. Leaves (Needed (parts_in (registry_of self.now)))
             (keys_of (types_of self.now)) (texts_of names)) }
     {
         let roots = self.roots()?;
@@ -75,7 +75,7 @@ impl Registry {
     /// interfaces that types implement stay as they are. Removing once more changes nothing.
     pub fn remove_unused_types(&mut self) -> Result<(), OutOfMemory>
         ensures contents { OnOk result (KeepsUsed (registry_of self.old) (registry_of self.new)) }
-        ensures kept { OnOk result ((name : _) → Kept (parts_in (registry_of self.old)) name
+        ensures kept { OnOk result ((name : _) → Needed (parts_in (registry_of self.old)) name
             → at_text name (types_of self.new) ≡ at_text name (types_of self.old)) }
         ensures once { OnOk result ((third : Contents) → KeepsUsed (registry_of self.new) third
             → third ≡ registry_of self.new) }

@@ -8,7 +8,7 @@ use Rattle.std.specs.Map.{values_of}
 use Rattle.std.specs.Str.{bytes_eq}
 use Rattle.gql_registry_meta.specs.Parts.{Text, at_text, is_among, Meta}
 use Rattle.gql_registry_closures.specs.Links.{Link, Parts, plain_link, has_key, keyed_links, directive_links, starts_of}
-use Rattle.gql_registry_closures.specs.Reached.{every_rule, Used, Kept, LeadsTo, IsShownType, Reached, at_start, onward, names_led_to, is_open, is_system_name}
+use Rattle.gql_registry_closures.specs.Reached.{every_rule, Used, Needed, LeadsTo, IsShownType, Reached, at_start, onward, names_led_to, is_open, is_system_name}
 use Rattle.gql_registry_closures.specs.Answers.{Tells}
 use Rattle.gql_registry_closures.proofs.Places.{same_text}
 use Rattle.gql_registry_closures.proofs.Kept.{or_left, or_right}
@@ -89,7 +89,7 @@ leads_cases xs ys name h =
 abbrev pub parts_that : (Text → Bool) → Parts → Parts
 parts_that test parts = record parts { types = filter (λ entry. test entry.0) parts.types }
 
-module _ (parts : Parts) (test : Text → Bool) (tells : Tells test (Kept parts)) where
+module _ (parts : Parts) (test : Text → Bool) (tells : Tells test (Needed parts)) where
   used_passes : (name : Text) → Used parts name → test name ≡ true
   used_passes name u = (tells name).1 (inr u)
 
@@ -120,5 +120,5 @@ module _ (parts : Parts) (test : Text → Bool) (tells : Tells test (Kept parts)
       onward from type name (used_still from before) (stays test from (used_passes from before) parts.types ∙ stands) leads (shown_stays name p shown)
 
   -- and what was kept is kept still
-  pub kept_still : (name : Text) → test name ≡ true → Kept (parts_that test parts) name
+  pub kept_still : (name : Text) → test name ≡ true → Needed (parts_that test parts) name
   kept_still name p = elim ((tells name).0 p) [ inl s ↦ inl s | inr u ↦ inr (used_still name u) ]

@@ -47,8 +47,8 @@ is_system_name name =
     || is_among name (codes "Boolean" ∷ codes "Int" ∷ codes "Float" ∷ codes "String" ∷ codes "ID" ∷ [])
 
 -- what a schema needs: system types and used types
-abbrev pub Kept : Parts → Text → Type 0
-Kept parts name = (is_system_name name ≡ true) ⊎ Used parts name
+abbrev pub Needed : Parts → Text → Type 0
+Needed parts name = (is_system_name name ≡ true) ⊎ Used parts name
 
 -- ---- visible types
 

@@ -4,7 +4,7 @@ ghost use Rattle.std.specs.Prelude.{◌≡◌, ◌++◌, ◌||◌, ◌∷◌, []
 ghost use Rattle.std.specs.Map.{keys_of};
 ghost use Rattle.gql_registry_meta.specs.Parts.{Text, is_among};
 ghost use Rattle.gql_registry_meta.specs.Views.{text_of, texts_of, texts_in, entries_of, meta_of};
-ghost use Rattle.gql_registry_closures.specs.Reached.{is_system_name, Kept, Shown};
+ghost use Rattle.gql_registry_closures.specs.Reached.{is_system_name, Needed, Shown};
 ghost use Rattle.gql_registry_closures.specs.Answers.{parts_of, Leaves, HoldsExactly, set_names};
 ghost use Rattle.gql_registry_closures.specs.Walk.{is_name_kept, left_of};
 
@@ -128,7 +128,7 @@ pub fn unused_names(
     roots: &[&str],
 ) -> Result<Vec<String>, OutOfMemory>
     ensures { IfOk result (λ names.
-        Leaves (Kept (parts_of types.now directives.now (texts_in roots.now)))
+        Leaves (Needed (parts_of types.now directives.now (texts_in roots.now)))
         (keys_of (entries_of meta_of types.now.entries)) (texts_of names)) }
 {
     let numbers = Numbers::new(alloc, types)?;
