@@ -10,7 +10,7 @@ Run it at the top of the repository, after `./gqlsdl </dev/null` has built the p
 Seconds are those of the processor, the best of three runs. For each document it prints them, as a multiple of those of
 `iconv -f UTF-8 -t UTF-8` over the same bytes in the same run, the peak memory as a multiple of the input, the seconds of
 `cat`, and after the 16 MiB the ratio of its time to that of the 4 MiB, which stays near 4 where the time is linear. For
-each wide document it prints the seconds of one half as wide as well.
+each wide document it prints the seconds of one half as wide as well, and at last those of a small document.
 It needs nothing but Python 3 and iconv, and writes nothing but a temporary folder.
 """
 
@@ -102,13 +102,43 @@ SHAPES = {
     "services": (SHARED, SERVICE, ""),
 }
 
-# the beginning, one numbered line, how often it stands, and the end
+QUERY = "type Query{v:Int}\n"
+
+
+def lined(head, line, count, end):
+    """The head, numbered lines, and the end."""
+    yield head
+    for number in range(count):
+        yield line.format(number)
+    yield end
+
+
+def union(count):
+    """Objects, and a union of them."""
+    yield from lined(QUERY, "type T{0} {{ v: Int }}\n", count, "union U =\n")
+    yield from lined("", "  | T{0}\n", count, "")
+
+
+def linked(kind, field, last, count):
+    """Types of a kind that each lead to the next, and where the last one leads."""
+    yield QUERY
+    for number in range(count):
+        name = f"T{number + 1}" if number + 1 < count else last
+        yield f"{kind} T{number} {{{field.format(name)}}}\n"
+
+
+# a document of so many parts
 WIDE = {
-    "100,000 fields in a type": ("type Query{\n", "  field{0}(a: Int): [Int!]!\n", 100_000, "}\n"),
-    "100,000 types": ("type Query{v:Int}\n", "type T{0} @a {{ v: Int }}\n", 100_000, ""),
-    "200,000 enum values": ("type Query{v:Int}\nenum E{\n", "  VALUE{0}\n", 200_000, "}\n"),
-    "100,000 arguments": ("type Query{v(\n", "  a{0}: Int = 1\n", 100_000, "):Int}\n"),
-    "100,000 union members": ("type Query{v:Int}\nunion U =\n", "  | T{0}\n", 100_000, ""),
+    "100,000 fields in a type": lambda n: lined("type Query{\n", "  field{0}(a: Int): [Int!]!\n", n, "}\n"),
+    "100,000 types": lambda n: lined(QUERY, "type T{0} @a {{ v: Int }}\n", n, ""),
+    "100,000 enum values": lambda n: lined(QUERY + "enum E{\n", "  VALUE{0}\n", n, "}\n"),
+    "100,000 arguments": lambda n: lined("type Query{v(\n", "  a{0}: Int = 1\n", n, "):Int}\n"),
+    "100,000 union members": union,
+    "100,000 implementers": lambda n: lined(QUERY + "interface I{v:Int}\n", "type T{0} implements I{{v:Int}}\n", n, ""),
+    "a chain of 100,000 inputs": lambda n: linked("input", "a:{0}!", "Int", n),
+    "a ring of 100,000 inputs": lambda n: linked("input", "a:{0}!", "T0", n),
+    "a chain of 100,000 interfaces": lambda n: linked("interface", "a:{0}!", "Int", n),
+    "a ring of 100,000 interfaces": lambda n: linked("interface", "a:{0}!", "T0", n),
 }
 
 # the beginning, one part, how often it stands, and the status that is wanted
@@ -138,6 +168,8 @@ BUILT = {
     "a chain of 700,000 inputs": ("chain", 700_000),
     "a ring of 700,000 inputs": ("ring", 700_000),
     "2,000 inputs, the last needs itself": ("loop", 2_000),
+    "a chain of 100,000 types, searched": ("links", 100_000),
+    "a type with 100,000 edges, searched": ("edges", 100_000),
 }
 
 
@@ -192,18 +224,25 @@ def readers(folder):
 
 
 def wide(folder):
-    print(f"\n{'wide document':<28}{'status':>8}{'seconds':>10}{'peak MiB':>10}{'half as wide':>14}")
+    print(f"\n{'wide document':<30}{'status':>8}{'seconds':>10}{'peak MiB':>10}{'half as wide':>14}")
     path = os.path.join(folder, "in")
-    for name, (head, line, count, end) in WIDE.items():
+    for name, pieces in WIDE.items():
         times = []
-        for part in (count // 2, count):
+        for part in (50_000, 100_000):
             with open(path, "w", encoding="utf-8") as file:
-                file.write(head)
-                file.writelines(line.format(number) for number in range(part))
-                file.write(end)
+                file.writelines(pieces(part))
             status, seconds, peak = best([PROGRAM], path, folder)
             times.append(seconds)
-        print(f"{name:<28}{status:>8}{times[1]:>10.3f}{peak / MIB:>10.1f}{times[0]:>14.3f}")
+        print(f"{name:<30}{status:>8}{times[1]:>10.3f}{peak / MIB:>10.1f}{times[0]:>14.3f}")
+
+
+def start(folder):
+    """One small document, a hundred times."""
+    path = os.path.join(folder, "in")
+    with open(path, "w", encoding="utf-8") as file:
+        file.write(HEAD)
+    seconds = sum(run([PROGRAM], path, folder)[1] for _ in range(100)) / 100
+    print(f"\na small document: {seconds * 1000:.1f} ms")
 
 
 def hostile(folder):
@@ -235,6 +274,7 @@ def built(folder):
 def documents(folder):
     shapes(folder)
     wide(folder)
+    start(folder)
     return hostile(folder)
 
 

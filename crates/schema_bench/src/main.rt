@@ -1,5 +1,6 @@
-//! Builds a schema of a shape and a size in code, checks it, and makes its registry. It writes how many types the
-//! registry then has. `bench/run.py` times it.
+//! Builds a schema of a shape and a size in code, checks it, and makes its registry; or fills a registry, removes the types
+//! that it does not use, and looks for those that a reader may see. It writes how many types there are then.
+//! `bench/run.py` times it.
 #![tactic(auto)]
 
 use gql_check::{Schema, SchemaBuilder};
@@ -7,6 +8,7 @@ use gql_dynamic::{
     Field, InputObject, InputValue, Interface, InterfaceField, Object, OutOfMemory, SchemaError,
     Type,
 };
+use gql_registry::{Everything, Registry};
 use gql_text_values::TypeRef;
 use std::alloc::Global;
 use std::env;
@@ -27,6 +29,10 @@ enum Shape {
     Ring,
     /// Input objects that each need the next one, and the last one needs itself.
     Loop,
+    /// Objects of a registry that each lead to the next one.
+    Links,
+    /// Fields of one object of a registry, which all lead to another object.
+    Edges,
 }
 
 /// The shape and the size that the words name.
@@ -41,6 +47,8 @@ fn asked(rt: &HostRuntime) -> Option<(Shape, u32)> {
         "chain" => Shape::Chain,
         "ring" => Shape::Ring,
         "loop" => Shape::Loop,
+        "links" => Shape::Links,
+        "edges" => Shape::Edges,
         _ => return None,
     };
     Some((shape, count.parse::<u32>().ok()?))
@@ -154,6 +162,53 @@ fn many_fields(alloc: Global, count: u32) -> Option<usize> {
     finished(builder)
 }
 
+/// An object of a registry with one field, which leads to another object.
+fn put_link(registry: &mut Registry, number: u32, to: u32) -> Option<()> {
+    let alloc = registry.allocator();
+    let ty = TypeRef::named(alloc, numbered(alloc, "T", to).ok()?.as_str()).ok()?;
+    let field = Field::new(alloc, "v", ty).ok()?;
+    let name = numbered(alloc, "T", number).ok()?;
+    let object = Object::new(alloc, name.as_str()).ok()?.field(field).ok()?;
+    registry.insert_type(object.meta(alloc).ok()?).ok()?;
+    Some(())
+}
+
+/// An object of a registry with many fields, which all lead to another object.
+fn put_edges(registry: &mut Registry, count: u32) -> Option<()> {
+    let alloc = registry.allocator();
+    let mut object = Object::new(alloc, "T0").ok()?;
+    for number in 0..count {
+        let name = numbered(alloc, "f", number).ok()?;
+        let ty = TypeRef::named(alloc, "T1").ok()?;
+        let field = Field::new(alloc, name.as_str(), ty).ok()?;
+        object = object.field(field).ok()?;
+    }
+    registry.insert_type(object.meta(alloc).ok()?).ok()?;
+    Some(())
+}
+
+/// How many types a reader may see, after those that are not used were removed.
+fn searched(registry: &mut Registry) -> Option<usize> {
+    registry.set_query_type("T0").ok()?;
+    registry.remove_unused_types().ok()?;
+    Some(registry.find_visible_types(&Everything).ok()?.len())
+}
+
+fn many_links(alloc: Global, count: u32) -> Option<usize> {
+    let mut registry = Registry::new(alloc);
+    for number in 0..count {
+        put_link(&mut registry, number, number.saturating_add(1))?;
+    }
+    searched(&mut registry)
+}
+
+fn many_edges(alloc: Global, count: u32) -> Option<usize> {
+    let mut registry = Registry::new(alloc);
+    put_edges(&mut registry, count)?;
+    put_link(&mut registry, 1, 0)?;
+    searched(&mut registry)
+}
+
 fn measured(alloc: Global, shape: Shape, count: u32) -> Option<usize> {
     match shape {
         Shape::Types => many_types(alloc, count),
@@ -162,6 +217,8 @@ fn measured(alloc: Global, shape: Shape, count: u32) -> Option<usize> {
         Shape::Chain => many_inputs(alloc, count, None),
         Shape::Ring => many_inputs(alloc, count, Some(0)),
         Shape::Loop => many_inputs(alloc, count, Some(count.saturating_sub(1))),
+        Shape::Links => many_links(alloc, count),
+        Shape::Edges => many_edges(alloc, count),
     }
 }
 
