@@ -1,4 +1,10 @@
 //! Types of code that stand for roots of a schema, for objects that are merged of two, and for scalars.
+//!
+//! ```rust
+//! let mut registry = Registry::new(alloc);
+//! let merged = registry.create_fake_output_type::<MergedObject<Orders, Customers>>()?;
+//! registry.create_fake_subscription_type::<EmptySubscription>()?;
+//! ```
 #![tactic(auto)]
 
 mod empty_mutation;
