@@ -32,7 +32,7 @@ impl Registry {
         }
     }
 
-    /// Gives the type of that name this description, in the place of the one that it had: section 3.3.2 of the GraphQL
+    /// Gives the type of that name this description, in the place of the one that it had: section 3.2 of the GraphQL
     /// specification, October 2021. Where no type of the name stands, nothing changes.
     pub fn set_description(&mut self, name: &str, desc: &str) -> Result<(), OutOfMemory>
         ensures contents { OnOk result (registry_of self.new ≡ record (registry_of self.old) {

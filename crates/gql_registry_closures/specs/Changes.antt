@@ -16,7 +16,7 @@ with_key key (object type) = object (record type { keys = keys_with type.keys ke
 with_key key (interface type) = interface (record type { keys = keys_with type.keys key })
 with_key key type = type
 
--- the type with this description, in the place of the one that it had: section 3.3.2
+-- the type with this description, in the place of the one that it had: section 3.2
 abbrev pub described : Text → Meta → Meta
 described text (scalar type) = scalar (record type { description = Some text })
 described text (object type) = object (record type { description = Some text })

@@ -48,7 +48,7 @@ pub fn add_key(alloc: Global, ty: &mut MetaType, key: String) -> Result<(), OutO
     }
 }
 
-/// Gives a type this description, in the place of the one that it had: section 3.3.2 of the GraphQL specification, October
+/// Gives a type this description, in the place of the one that it had: section 3.2 of the GraphQL specification, October
 /// 2021.
 pub fn describe(ty: &mut MetaType, text: String)
     ensures described { meta_of ty.new ≡ described (text_of text) (meta_of ty.old) }

@@ -1,4 +1,4 @@
--- A description before its owner: section 3.1 of the GraphQL specification, October 2021.
+-- A description before its owner: section 3.2 of the GraphQL specification, October 2021.
 use Rattle.std.specs.Prelude.{Bool, [], Option, Some, None}
 use Rattle.gql_registry_meta.specs.Parts.{Text}
 use Rattle.gql_sdl_readback.specs.Descriptions.{description_text}

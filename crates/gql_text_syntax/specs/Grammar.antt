@@ -49,7 +49,7 @@ value = limited ValueLimit (declared s.values [] false (value_within 64))
 unfoldable pub described : Form Description
 described = (λ t. record { text = string_text t.text; at = t.at }) <$> one s.strings
 
--- Desc?, section 3.1
+-- Desc?, section 3.2
 unfoldable pub description : Form (Option Description)
 description = opt described
 

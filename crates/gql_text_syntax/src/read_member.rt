@@ -29,7 +29,7 @@ fn described<'t>(cursor: &mut Cursor<'t>) -> Result<Description<'t>, Stopped>
     })
 }
 
-/// The description of what follows, where one is written, section 3.1.
+/// The description of what follows, where one is written, section 3.2.
 pub fn description<'t>(cursor: &mut Cursor<'t>) -> Result<Option<Description<'t>>, Stopped>
     ensures { Reads (grammar.description.read cursor.old) result cursor.new }
 {
