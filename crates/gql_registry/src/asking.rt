@@ -10,7 +10,7 @@ ghost use Rattle.gql_registry_closures.specs.Links.{named_in};
 ghost use Rattle.gql_registry_closures.specs.Reached.{Shown, is_system_name};
 ghost use Rattle.gql_registry_closures.specs.Answers.{HoldsExactly, set_names};
 ghost use Rattle.gql_registry_closures.specs.Names.{all_names, ListsOnce};
-ghost use Rattle.gql_registry_closures.specs.Changes.{has_entities};
+ghost use Rattle.gql_registry_closures.specs.Entities.{has_entities};
 ghost use Rattle.gql_registry.specs.Registry.{registry_of, types_of, directives_of};
 ghost use Rattle.gql_registry.specs.Asked.{root_listed, roots_of, parts_in};
 

@@ -2,6 +2,6 @@ pub mod Links
 pub mod Reached
 pub mod Answers
 pub mod Names
-pub mod Changes
+pub mod Entities
 pub mod Table
 pub mod Walk

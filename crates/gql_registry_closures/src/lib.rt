@@ -2,14 +2,14 @@
 //! vectors.
 #![tactic(auto)]
 
-mod changes;
 mod edges;
+mod entities;
 mod names;
 mod naming;
 mod numbers;
 mod search;
 mod table;
 
-pub use changes::{add_key, describe, has_entities};
+pub use entities::has_entities;
 pub use names::{is_system_name, unused_names, visible_names};
 pub use naming::all_names;

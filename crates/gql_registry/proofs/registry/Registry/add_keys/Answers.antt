@@ -1,7 +1,7 @@
 use Rattle.std.proofs.Common.{ap, ◌∙◌, ◌≡◌, sym}
 use Rattle.std.proofs.lemmas.Result.{on_ok_weaker, on_err_weaker}
 use Rattle.gql_registry_meta.specs.Views.{text_of, meta_of, entries_of}
-use Rattle.gql_registry_closures.specs.Changes.{with_key}
+use Rattle.gql_registry.specs.Changes.{with_key}
 use Rattle.gql_registry.specs.Registry.{registry_of, types_of, changed_at}
 use Rattle.gql_registry_meta.proofs.Entries.{written_back}
 use Rattle.gql_registry.proofs.OwnNames.{types_written}

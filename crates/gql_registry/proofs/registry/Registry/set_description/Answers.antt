@@ -1,6 +1,6 @@
 use Rattle.std.proofs.Common.{ap, ◌∙◌, sym}
 use Rattle.gql_registry_meta.specs.Views.{text_of, meta_of, entries_of}
-use Rattle.gql_registry_closures.specs.Changes.{described}
+use Rattle.gql_registry.specs.Changes.{described}
 use Rattle.gql_registry.specs.Registry.{registry_of, types_of, changed_at}
 use Rattle.gql_registry.proofs.OwnNames.{types_written}
 use Rattle.gql_registry.proofs.Steps.{changed, none_changed}

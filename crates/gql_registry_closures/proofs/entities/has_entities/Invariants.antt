@@ -1,8 +1,8 @@
 use Rattle.std.proofs.Common.{◌≡◌, map}
 use Rattle.std.specs.List.{list_any}
 use Rattle.gql_registry_meta.specs.Views.{meta_of}
-use Rattle.gql_registry_closures.specs.Changes.{is_entity}
-use Rattle.gql_registry_closures.proofs.changes.has_entities.Given as goal
+use Rattle.gql_registry_closures.specs.Entities.{is_entity}
+use Rattle.gql_registry_closures.proofs.entities.has_entities.Given as goal
 
 -- what is left has an entity exactly where all have one
 abbrev pub invariant-loop-ty : goal.invariant-loop-ty

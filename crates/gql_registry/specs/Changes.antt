@@ -1,10 +1,7 @@
--- Changes of a type in a registry, and what a type is to other schemas.
-use Rattle.std.specs.Prelude.{Bool, ◌&&◌, false, List, [], ◌∷◌, ◌++◌, Option, Some}
+-- Changes of one type of a registry.
+use Rattle.std.specs.Prelude.{List, [], ◌∷◌, ◌++◌, Option, Some}
 use Rattle.std.specs.Option.{unwrap_or}
-use Rattle.std.specs.List.{list_any}
-use Rattle.std.specs.Map.{values_of}
 use Rattle.gql_registry_meta.specs.Parts.{Text, Meta, scalar, object, interface, union, enum, input_object}
-use Rattle.gql_registry_closures.specs.Links.{has_key}
 
 -- the keys with one more, the last
 abbrev pub keys_with : Option (List Text) → Text → Option (List Text)
@@ -24,13 +21,3 @@ described text (interface type) = interface (record type { description = Some te
 described text (union type) = union (record type { description = Some text })
 described text (enum type) = enum (record type { description = Some text })
 described text (input_object type) = input_object (record type { description = Some text })
-
--- An object that can be resolved, or an interface, with a key: other schemas of a federation refer to it.
-abbrev pub is_entity : Meta → Bool
-is_entity (object type) = type.resolvable && has_key (object type)
-is_entity (interface type) = has_key (interface type)
-is_entity _ = false
-
--- some type is an entity
-abbrev pub has_entities : List (Text × Meta) → Bool
-has_entities types = list_any is_entity (values_of types)

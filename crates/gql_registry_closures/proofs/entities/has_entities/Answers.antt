@@ -2,9 +2,9 @@ use Rattle.std.proofs.Common.{rules, ◌≡◌, ◌||◌, ◌∷◌, [], true, a
 use Rattle.std.specs.List.{list_any}
 use Rattle.std.specs.Map.{values_of}
 use Rattle.gql_registry_meta.specs.Views.{meta_of}
-use Rattle.gql_registry_closures.specs.Changes.{is_entity, has_entities}
+use Rattle.gql_registry_closures.specs.Entities.{is_entity, has_entities}
 use Rattle.gql_registry_closures.proofs.Lists.{any_viewed}
-use Rattle.gql_registry_closures.proofs.changes.has_entities.Goals as goal
+use Rattle.gql_registry_closures.proofs.entities.has_entities.Goals as goal
 
 pub returns-then-is_entity : goal.returns-then-is_entity
 returns-then-is_entity g c =
