@@ -75,13 +75,14 @@ fn new_name(alloc: Global, types: &SchemaTypes, ty: &Type) -> Result<String, Sch
     Ok(name)
 }
 
-/// Puts a type last, under its name, which is new.
-fn put_last(types: &mut SchemaTypes, name: String, ty: Type) -> Result<(), OutOfMemory>
+/// Puts a type last, under its name, which is new. It keeps no memory that it does not need.
+fn put_last(types: &mut SchemaTypes, name: String, mut ty: Type) -> Result<(), OutOfMemory>
     requires name { text_of name ≡ type_name (type_parts ty) }
     requires new { IsNewName (type_name (type_parts ty)) (schema_parts types.old) }
     ensures { OnOk result
         (schema_parts types.new ≡ with_last_type (type_parts ty) (schema_parts types.old)) }
 {
+    ty.shrink_to_fit();
     types.types.insert(name, ty)?;
     Ok(())
 }

@@ -127,6 +127,22 @@ impl SchemaType {
         }
     }
 
+    /// Gives back the memory that its maps and lists do not need.
+    pub fn shrink_to_fit(&mut self)
+        ensures { type_parts self.new ≡ type_parts self.old }
+    {
+        match self {
+            SchemaType::Object(ty) => ty.shrink_to_fit(),
+            SchemaType::InputObject(ty) => ty.shrink_to_fit(),
+            SchemaType::Enum(ty) => ty.shrink_to_fit(),
+            SchemaType::Interface(ty) => ty.shrink_to_fit(),
+            SchemaType::Union(ty) => ty.shrink_to_fit(),
+            SchemaType::Subscription(ty) => ty.shrink_to_fit(),
+            SchemaType::Scalar(_) => {}
+            SchemaType::Upload => {}
+        }
+    }
+
     /// Registers it with the interfaces that it implements, in order: all of that, or nothing. The registry then has exactly
     /// one type more.
     ///

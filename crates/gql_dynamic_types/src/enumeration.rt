@@ -111,6 +111,13 @@ impl Enum {
         &self.items
     }
 
+    /// Gives back the memory that its values do not need.
+    pub fn shrink_to_fit(&mut self)
+        ensures { enum_parts self.new ≡ enum_parts self.old }
+    {
+        self.items.shrink_to_fit();
+    }
+
     /// The type that is registered.
     pub fn meta(&self, alloc: Global) -> Result<MetaType, OutOfMemory>
         ensures { IfOk result (λ ty. meta_of ty ≡ enum_meta (enum_parts self.now)) }

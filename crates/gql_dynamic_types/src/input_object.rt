@@ -131,6 +131,13 @@ impl InputObject {
         self.oneof
     }
 
+    /// Gives back the memory that its fields do not need.
+    pub fn shrink_to_fit(&mut self)
+        ensures { input_object_parts self.new ≡ input_object_parts self.old }
+    {
+        self.fields.shrink_to_fit();
+    }
+
     /// The type that is registered.
     pub fn meta(&self, alloc: Global) -> Result<MetaType, OutOfMemory>
         ensures { IfOk result (λ ty. meta_of ty ≡ input_object_meta (input_object_parts self.now)) }

@@ -56,7 +56,7 @@ impl Interface {
     /// Gives it a field, after those that it has.
     ///
     /// Answers `AlreadyExists` where it has a field of that name.
-    pub fn field(mut self, field: InterfaceField) -> Result<Interface, BuildError>
+    pub fn field(mut self, mut field: InterfaceField) -> Result<Interface, BuildError>
         ensures added { IfOk result (λ interface. interface_parts interface
             ≡ record (interface_parts self) {
               fields = with_last (interface_parts self).fields (field_parts field).name (field_parts field);
@@ -65,6 +65,7 @@ impl Interface {
         ensures repeated { IfErr result (
             ReportsRepeated (field_parts field).name (keys_of (interface_parts self).fields)) }
     {
+        field.shrink_to_fit();
         let name = String::from_str(self.alloc, field.name())?;
         put_new(&mut self.fields, name, field)?;
         Ok(self)
@@ -165,6 +166,14 @@ impl Interface {
         ensures { result ≡ not (is_empty (interface_parts self.now).keys) }
     {
         !self.keys.is_empty()
+    }
+
+    /// Gives back the memory that its fields and its list of interfaces do not need.
+    pub fn shrink_to_fit(&mut self)
+        ensures { interface_parts self.new ≡ interface_parts self.old }
+    {
+        self.fields.shrink_to_fit();
+        self.implements.shrink_to_fit();
     }
 
     /// The type that is registered. Its possible types are those that say that they implement it.

@@ -62,7 +62,7 @@ impl Object {
     /// Gives it a field, after those that it has.
     ///
     /// Answers `AlreadyExists` where it has a field of that name.
-    pub fn field(mut self, field: Field) -> Result<Object, BuildError>
+    pub fn field(mut self, mut field: Field) -> Result<Object, BuildError>
         ensures added { IfOk result (λ object. object_parts object ≡ record (object_parts self) {
           fields = with_last (object_parts self).fields (field_parts field).name (field_parts field);
         }) }
@@ -70,6 +70,7 @@ impl Object {
         ensures repeated { IfErr result (
             ReportsRepeated (field_parts field).name (keys_of (object_parts self).fields)) }
     {
+        field.shrink_to_fit();
         let name = String::from_str(self.alloc, field.name())?;
         put_new(&mut self.fields, name, field)?;
         Ok(self)
@@ -195,6 +196,14 @@ impl Object {
         ensures { result ≡ not (is_empty (object_parts self.now).keys) }
     {
         !self.keys.is_empty()
+    }
+
+    /// Gives back the memory that its fields and its list of interfaces do not need.
+    pub fn shrink_to_fit(&mut self)
+        ensures { object_parts self.new ≡ object_parts self.old }
+    {
+        self.fields.shrink_to_fit();
+        self.implements.shrink_to_fit();
     }
 
     /// The type that is registered.

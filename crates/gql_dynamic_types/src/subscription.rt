@@ -78,6 +78,13 @@ impl Subscription {
         &self.fields
     }
 
+    /// Gives back the memory that its fields do not need.
+    pub fn shrink_to_fit(&mut self)
+        ensures { subscription_parts self.new ≡ subscription_parts self.old }
+    {
+        self.fields.shrink_to_fit();
+    }
+
     /// The type that is registered: an object that is marked as a subscription.
     pub fn meta(&self, alloc: Global) -> Result<MetaType, OutOfMemory>
         ensures { IfOk result (λ ty. meta_of ty ≡ subscription_meta (subscription_parts self.now)) }

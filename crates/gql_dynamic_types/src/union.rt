@@ -104,6 +104,13 @@ impl Union {
         &self.possible_types
     }
 
+    /// Gives back the memory that its list of possible types does not need.
+    pub fn shrink_to_fit(&mut self)
+        ensures { union_parts self.new ≡ union_parts self.old }
+    {
+        self.possible_types.shrink_to_fit();
+    }
+
     /// The type that is registered.
     pub fn meta(&self, alloc: Global) -> Result<MetaType, OutOfMemory>
         ensures { IfOk result (λ ty. meta_of ty ≡ union_meta (union_parts self.now)) }

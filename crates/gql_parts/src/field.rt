@@ -197,6 +197,13 @@ impl<Owner: Drop> FieldBuilder<Owner> {
         &self.arguments
     }
 
+    /// Gives back the memory that its arguments do not need.
+    pub fn shrink_to_fit(&mut self)
+        ensures { field_parts self.new ≡ field_parts self.old }
+    {
+        self.arguments.shrink_to_fit();
+    }
+
     /// The field that is registered. Its type is the text of `ty`.
     pub fn meta(&self, alloc: Global) -> Result<MetaField, OutOfMemory>
         ensures { IfOk result (λ field. field_of field ≡ field_meta (field_parts self.now)) }

@@ -14,11 +14,13 @@ pub returns : goal.returns
 returns g c =
     let types = c.args.types.now.types.entries in
     let name = text_of c.args.name in
+    let ty = c.shrink_to_fit.new.self in
     let new = found_among type_parts name types ∙ ap (λ t. is_among t (keys_of (entries_of type_parts types))) c.requires.name ∙ c.requires.new in
     ap (λ types. record (schema_parts c.args.types.now) { types = types })
     (ap (entries_of type_parts)
     (c.in_ok-insert.ensures.entries
-    ∙ insert_entry-new string_eq c.args.types.now.types c.args.name c.args.ty
+    ∙ insert_entry-new string_eq c.args.types.now.types c.args.name ty
     (nothing_at c.args.name types new))
-    ∙ entries_of-last type_parts types c.args.name c.args.ty
+    ∙ entries_of-last type_parts types c.args.name ty
+    ∙ ap (with_last (entries_of type_parts types) name) c.shrink_to_fit.ensures
     ∙ ap (λ t. with_last (entries_of type_parts types) t (type_parts c.args.ty)) c.requires.name)
