@@ -106,11 +106,19 @@ fn types_that_nothing_leads_to_are_removed(rt: HostRuntime) {
     let mut registry = Registry::new(rt.alloc());
     fill(&rt, &mut registry);
     got(&rt, registry.add_implements("Query", "I"));
+    got(&rt, registry.add_implements("Query", "I"));
     got(&rt, registry.add_keys("B", "k"));
+    same(
+        &rt,
+        types(&rt, &registry).as_str(),
+        "A B Query ",
+        "a scalar gets no key",
+    );
+    assert!(rt; !registry.has_entities());
     got(&rt, registry.remove_unused_types());
     same(&rt, types(&rt, &registry).as_str(), "A Query ", "the types");
     let names = registry.implements_of("Query");
-    assert!(rt; names.is_some_and(|names| names.len() == 1));
+    assert!(rt; names.is_some_and(|names| names.len() == 1 && names.contains("I")));
 }
 
 #[test]
@@ -193,6 +201,7 @@ fn types_of_code_are_made_and_copied(rt: HostRuntime) {
     let mut registry = Registry::new(rt.alloc());
     let merged = output::<MergedObject<EmptyMutation, EmptyMutation>>(&rt, &mut registry);
     same(&rt, merged.name(), "EmptyMutation_EmptyMutation", "a merged object");
+    assert!(rt; merged.type_id() == MetaTypeId::Object);
     let upload = input::<Upload>(&rt, &mut registry);
     assert!(rt; upload.type_id() == MetaTypeId::Scalar);
     let events = subscription::<EmptySubscription>(&rt, &mut registry);
