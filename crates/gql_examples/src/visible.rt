@@ -36,18 +36,6 @@ fn hide(ty: &mut MetaType) {
     }
 }
 
-/// Puts `type Query { salary: Salary }` and `type Salary { amount: Int }`, which is hidden, into a registry.
-fn fill(registry: &mut Registry) -> Result<(), BuildError> {
-    let alloc = registry.allocator();
-    let query = object(alloc, "Query", "salary", "Salary")?.meta(alloc)?;
-    let mut salary = object(alloc, "Salary", "amount", "Int")?.meta(alloc)?;
-    hide(&mut salary);
-    registry.insert_type(query)?;
-    registry.insert_type(salary)?;
-    registry.set_query_type("Query")?;
-    Ok(())
-}
-
 /// Adds a line with the names of the types that a reader may see.
 fn push_seen(out: &mut String, registry: &Registry, is_staff: bool) -> Result<(), OutOfMemory> {
     out.push_str(if is_staff {
@@ -65,7 +53,13 @@ fn push_seen(out: &mut String, registry: &Registry, is_staff: bool) -> Result<()
 
 pub(crate) fn example(alloc: Global) -> Option<String> {
     let mut registry = Registry::new(alloc);
-    fill(&mut registry).ok()?;
+    registry.set_query_type("Query").ok()?;
+    let query = object(alloc, "Query", "salary", "Salary").ok()?;
+    registry.insert_type(query.meta(alloc).ok()?).ok()?;
+    let salary = object(alloc, "Salary", "amount", "Int").ok()?;
+    let mut salary = salary.meta(alloc).ok()?;
+    hide(&mut salary);
+    registry.insert_type(salary).ok()?;
     let mut out = String::new(alloc);
     push_seen(&mut out, &registry, false).ok()?;
     push_seen(&mut out, &registry, true).ok()?;

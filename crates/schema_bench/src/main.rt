@@ -162,20 +162,16 @@ fn many_fields(alloc: Global, count: u32) -> Option<usize> {
     finished(builder)
 }
 
-/// An object of a registry with one field, which leads to another object.
-fn put_link(registry: &mut Registry, number: u32, to: u32) -> Option<()> {
-    let alloc = registry.allocator();
+/// An object of one field, which leads to another object.
+fn link(alloc: Global, number: u32, to: u32) -> Option<Object> {
     let ty = TypeRef::named(alloc, numbered(alloc, "T", to).ok()?.as_str()).ok()?;
     let field = Field::new(alloc, "v", ty).ok()?;
     let name = numbered(alloc, "T", number).ok()?;
-    let object = Object::new(alloc, name.as_str()).ok()?.field(field).ok()?;
-    registry.insert_type(object.meta(alloc).ok()?).ok()?;
-    Some(())
+    Object::new(alloc, name.as_str()).ok()?.field(field).ok()
 }
 
-/// An object of a registry with many fields, which all lead to another object.
-fn put_edges(registry: &mut Registry, count: u32) -> Option<()> {
-    let alloc = registry.allocator();
+/// An object of many fields, which all lead to another object.
+fn edges(alloc: Global, count: u32) -> Option<Object> {
     let mut object = Object::new(alloc, "T0").ok()?;
     for number in 0..count {
         let name = numbered(alloc, "f", number).ok()?;
@@ -183,30 +179,31 @@ fn put_edges(registry: &mut Registry, count: u32) -> Option<()> {
         let field = Field::new(alloc, name.as_str(), ty).ok()?;
         object = object.field(field).ok()?;
     }
-    registry.insert_type(object.meta(alloc).ok()?).ok()?;
-    Some(())
+    Some(object)
 }
 
-/// How many types a reader may see, after those that are not used were removed.
-fn searched(registry: &mut Registry) -> Option<usize> {
+/// How many types a reader may see of objects that each lead to the next one, after those that are not used were removed.
+fn many_links(alloc: Global, count: u32) -> Option<usize> {
+    let mut registry = Registry::new(alloc);
     registry.set_query_type("T0").ok()?;
+    for number in 0..count {
+        let object = link(alloc, number, number.saturating_add(1))?;
+        registry.insert_type(object.meta(alloc).ok()?).ok()?;
+    }
     registry.remove_unused_types().ok()?;
     Some(registry.find_visible_types(&Everything).ok()?.len())
 }
 
-fn many_links(alloc: Global, count: u32) -> Option<usize> {
-    let mut registry = Registry::new(alloc);
-    for number in 0..count {
-        put_link(&mut registry, number, number.saturating_add(1))?;
-    }
-    searched(&mut registry)
-}
-
+/// The same of an object of many fields, which all lead to another object.
 fn many_edges(alloc: Global, count: u32) -> Option<usize> {
     let mut registry = Registry::new(alloc);
-    put_edges(&mut registry, count)?;
-    put_link(&mut registry, 1, 0)?;
-    searched(&mut registry)
+    registry.set_query_type("T0").ok()?;
+    let object = edges(alloc, count)?;
+    registry.insert_type(object.meta(alloc).ok()?).ok()?;
+    let object = link(alloc, 1, 0)?;
+    registry.insert_type(object.meta(alloc).ok()?).ok()?;
+    registry.remove_unused_types().ok()?;
+    Some(registry.find_visible_types(&Everything).ok()?.len())
 }
 
 fn measured(alloc: Global, shape: Shape, count: u32) -> Option<usize> {
