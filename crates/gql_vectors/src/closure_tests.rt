@@ -43,7 +43,10 @@ fn add_scalars(rt: &impl Abort, registry: &mut Registry) {
 /// Puts `type Query { v: A }`, the query root, and these scalars into a registry.
 fn fill(rt: &impl Abort, registry: &mut Registry) {
     let alloc = registry.allocator();
-    let field = got(rt, Field::new(alloc, "v", got(rt, TypeRef::named(alloc, "A"))));
+    let field = got(
+        rt,
+        Field::new(alloc, "v", got(rt, TypeRef::named(alloc, "A"))),
+    );
     let query = got(rt, got(rt, Object::new(alloc, "Query")).field(field));
     let query = got(rt, query.meta(alloc));
     got(rt, registry.insert_type(query));
@@ -83,7 +86,12 @@ fn names(rt: &impl Abort, registry: &Registry) -> String {
 fn a_registry_is_asked(rt: HostRuntime) {
     let mut registry = Registry::new(rt.alloc());
     fill(&rt, &mut registry);
-    same(&rt, names(&rt, &registry).as_str(), "A B Query v ", "the names");
+    same(
+        &rt,
+        names(&rt, &registry).as_str(),
+        "A B Query v ",
+        "the names",
+    );
     same(
         &rt,
         visible(&rt, &registry, &Everything).as_str(),
@@ -130,7 +138,12 @@ fn a_type_with_a_key_is_kept(rt: HostRuntime) {
     got(&rt, registry.insert_type(object));
     got(&rt, registry.add_keys("C", "id"));
     got(&rt, registry.remove_unused_types());
-    same(&rt, types(&rt, &registry).as_str(), "A C Query ", "the types");
+    same(
+        &rt,
+        types(&rt, &registry).as_str(),
+        "A C Query ",
+        "the types",
+    );
     assert!(rt; registry.has_entities());
 }
 
@@ -171,10 +184,11 @@ fn types_are_made_where_they_are_missing(rt: HostRuntime) {
         make(alloc, "T")
     });
     assert!(rt; made.is_ok());
-    let again =
-        registry.create_input_type("T", MetaTypeId::InputObject, |_registry: &mut Registry| {
-            make(alloc, "T")
-        });
+    let again = registry.create_input_type(
+        "T",
+        MetaTypeId::InputObject,
+        |_registry: &mut Registry| { make(alloc, "T") },
+    );
     assert!(rt; matches!(again, Err(RegistryError::KindConflict { .. })));
     let other = registry.create_subscription_type("S", |_registry: &mut Registry| make(alloc, "U"));
     assert!(rt; matches!(other, Err(RegistryError::NameMismatch { .. })));
@@ -200,7 +214,12 @@ fn subscription<T: SubscriptionType>(rt: &impl Abort, registry: &mut Registry) -
 fn types_of_code_are_made_and_copied(rt: HostRuntime) {
     let mut registry = Registry::new(rt.alloc());
     let merged = output::<MergedObject<EmptyMutation, EmptyMutation>>(&rt, &mut registry);
-    same(&rt, merged.name(), "EmptyMutation_EmptyMutation", "a merged object");
+    same(
+        &rt,
+        merged.name(),
+        "EmptyMutation_EmptyMutation",
+        "a merged object",
+    );
     assert!(rt; merged.type_id() == MetaTypeId::Object);
     let upload = input::<Upload>(&rt, &mut registry);
     assert!(rt; upload.type_id() == MetaTypeId::Scalar);

@@ -6,9 +6,9 @@ mod asserting;
 #[cfg(test)]
 mod chain_tests;
 #[cfg(test)]
-mod closure_tests;
-#[cfg(test)]
 mod check_tests;
+#[cfg(test)]
+mod closure_tests;
 #[cfg(test)]
 mod document_tests;
 #[cfg(test)]
