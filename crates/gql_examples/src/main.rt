@@ -1,8 +1,8 @@
 //! Examples of the library, as a caller writes them: each module is one, and the program prints what each answers.
 //!
 //! A function of a caller's crate that hands out a `Scalar`, a `SchemaBuilder`, a `Schema` or a changed `Registry`, which
-//! may hold a test of values, is refused by the gate: its contract would say nothing of that test. The examples make and
-//! use such a value in one function, and hand out what they ask of it.
+//! may hold a test of values, is refused by the gate unless it states a condition: its contract would say nothing of that
+//! test. The examples make and use such a value in one function, and `visible` fills a registry that has to be empty.
 #![tactic(auto)]
 
 mod building;

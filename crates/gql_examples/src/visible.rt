@@ -1,5 +1,8 @@
 //! A registry with hidden parts: which of its types a reader may see.
 
+ghost use Rattle.std.specs.Prelude.{◌≡◌};
+ghost use Rattle.gql_registry.specs.Registry.{registry_of, empty};
+
 use gql_check::{BuildError, Field, Object, OutOfMemory, TypeRef};
 use gql_registry::{Context, MetaType, Registry};
 use std::alloc::Global;
@@ -36,6 +39,20 @@ fn hide(ty: &mut MetaType) {
     }
 }
 
+/// Puts `type Query { salary: Salary }` and `type Salary { amount: Int }`, which is hidden, into an empty registry.
+fn fill(registry: &mut Registry) -> Result<(), BuildError>
+    requires { registry_of registry.old ≡ empty }
+{
+    let alloc = registry.allocator();
+    let query = object(alloc, "Query", "salary", "Salary")?.meta(alloc)?;
+    let mut salary = object(alloc, "Salary", "amount", "Int")?.meta(alloc)?;
+    hide(&mut salary);
+    registry.insert_type(query)?;
+    registry.insert_type(salary)?;
+    registry.set_query_type("Query")?;
+    Ok(())
+}
+
 /// Adds a line with the names of the types that a reader may see.
 fn push_seen(out: &mut String, registry: &Registry, is_staff: bool) -> Result<(), OutOfMemory> {
     out.push_str(if is_staff {
@@ -53,13 +70,7 @@ fn push_seen(out: &mut String, registry: &Registry, is_staff: bool) -> Result<()
 
 pub(crate) fn example(alloc: Global) -> Option<String> {
     let mut registry = Registry::new(alloc);
-    registry.set_query_type("Query").ok()?;
-    let query = object(alloc, "Query", "salary", "Salary").ok()?;
-    registry.insert_type(query.meta(alloc).ok()?).ok()?;
-    let salary = object(alloc, "Salary", "amount", "Int").ok()?;
-    let mut salary = salary.meta(alloc).ok()?;
-    hide(&mut salary);
-    registry.insert_type(salary).ok()?;
+    fill(&mut registry).ok()?;
     let mut out = String::new(alloc);
     push_seen(&mut out, &registry, false).ok()?;
     push_seen(&mut out, &registry, true).ok()?;

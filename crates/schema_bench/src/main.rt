@@ -1,5 +1,5 @@
-//! Builds a schema of a shape and a size in code, checks it, and makes its registry; or fills a registry, removes the types
-//! that it does not use, and looks for those that a reader may see. It writes how many types there are then.
+//! Builds a schema of a shape and a size in code, checks it, and makes its registry; of some shapes it then removes the
+//! types that are not used, and looks for those that a reader may see. It writes how many types there are.
 //! `bench/run.py` times it.
 #![tactic(auto)]
 
@@ -29,9 +29,9 @@ enum Shape {
     Ring,
     /// Input objects that each need the next one, and the last one needs itself.
     Loop,
-    /// Objects of a registry that each lead to the next one.
+    /// Objects that each lead to the next one, searched.
     Links,
-    /// Fields of one object of a registry, which all lead to another object.
+    /// Fields of one object, which all lead to another one, searched.
     Edges,
 }
 
@@ -182,28 +182,56 @@ fn edges(alloc: Global, count: u32) -> Option<Object> {
     Some(object)
 }
 
-/// How many types a reader may see of objects that each lead to the next one, after those that are not used were removed.
-fn many_links(alloc: Global, count: u32) -> Option<usize> {
-    let mut registry = Registry::new(alloc);
-    registry.set_query_type("T0").ok()?;
-    for number in 0..count {
-        let object = link(alloc, number, number.saturating_add(1))?;
-        registry.insert_type(object.meta(alloc).ok()?).ok()?;
-    }
-    registry.remove_unused_types().ok()?;
-    Some(registry.find_visible_types(&Everything).ok()?.len())
+/// How many types a reader may see of a schema.
+fn seen(schema: &Schema) -> Option<usize> {
+    Some(
+        schema
+            .registry()
+            .find_visible_types(&Everything)
+            .ok()?
+            .len(),
+    )
 }
 
-/// The same of an object of many fields, which all lead to another object.
-fn many_edges(alloc: Global, count: u32) -> Option<usize> {
-    let mut registry = Registry::new(alloc);
-    registry.set_query_type("T0").ok()?;
-    let object = edges(alloc, count)?;
-    registry.insert_type(object.meta(alloc).ok()?).ok()?;
-    let object = link(alloc, 1, 0)?;
-    registry.insert_type(object.meta(alloc).ok()?).ok()?;
+/// How many types a registry has, after those that are not used were removed.
+fn cleaned(mut registry: Registry) -> Option<usize> {
     registry.remove_unused_types().ok()?;
-    Some(registry.find_visible_types(&Everything).ok()?.len())
+    Some(registry.types().len())
+}
+
+/// How many types are left of a schema, all of which a reader may see; 0 where it may not see all.
+fn left(schema: Schema) -> Option<usize> {
+    let seen = seen(&schema)?;
+    let left = cleaned(schema.into_registry())?;
+    Some(if seen == left { left } else { 0 })
+}
+
+/// How many types are left of the finished schema; none where it is refused.
+fn searched(builder: SchemaBuilder) -> Option<usize> {
+    match builder.finish() {
+        Ok(schema) => left(schema),
+        Err(_) => None,
+    }
+}
+
+/// Objects that each lead to the next one, and the last one to the first.
+fn many_links(alloc: Global, count: u32) -> Option<usize> {
+    let mut builder = Schema::build(alloc, "T0", None, None).ok()?;
+    for number in 1..count {
+        let object = link(alloc, number - 1, number)?;
+        builder = builder.register(Type::from(object)).ok()?;
+    }
+    let last = link(alloc, count.saturating_sub(1), 0)?;
+    builder = builder.register(Type::from(last)).ok()?;
+    searched(builder)
+}
+
+/// An object of many fields, which all lead to another object.
+fn many_edges(alloc: Global, count: u32) -> Option<usize> {
+    let mut builder = Schema::build(alloc, "T0", None, None).ok()?;
+    builder = builder.register(Type::from(edges(alloc, count)?)).ok()?;
+    builder = builder.register(Type::from(link(alloc, 1, 0)?)).ok()?;
+    searched(builder)
 }
 
 fn measured(alloc: Global, shape: Shape, count: u32) -> Option<usize> {
