@@ -68,11 +68,18 @@ fn push_seen(out: &mut String, registry: &Registry, is_staff: bool) -> Result<()
     Ok(())
 }
 
+/// What a guest and the staff may see.
+fn seen(registry: &Registry) -> Result<String, OutOfMemory> {
+    let mut out = String::new(registry.allocator());
+    push_seen(&mut out, registry, false)?;
+    push_seen(&mut out, registry, true)?;
+    Ok(out)
+}
+
 pub(crate) fn example(alloc: Global) -> Option<String> {
     let mut registry = Registry::new(alloc);
-    fill(&mut registry).ok()?;
-    let mut out = String::new(alloc);
-    push_seen(&mut out, &registry, false).ok()?;
-    push_seen(&mut out, &registry, true).ok()?;
-    Some(out)
+    match fill(&mut registry) {
+        Ok(()) => seen(&registry).ok(),
+        Err(_) => None,
+    }
 }
