@@ -26,10 +26,10 @@ impl Context for Reader {
     }
 }
 
-/// `type NAME { FIELD: TYPE }`
-fn object(alloc: Global, name: &str, field: &str, ty: &str) -> Result<Object, BuildError> {
-    let field = Field::new(alloc, field, TypeRef::named(alloc, ty)?)?;
-    Object::new(alloc, name)?.field(field)
+/// `type Query { salary: Int }`
+fn query(alloc: Global) -> Result<Object, BuildError> {
+    let salary = Field::new(alloc, "salary", TypeRef::named(alloc, "Int")?)?;
+    Object::new(alloc, "Query")?.field(salary)
 }
 
 /// Shows an object where the rule of the staff holds.
@@ -39,26 +39,24 @@ fn hide(ty: &mut MetaType) {
     }
 }
 
-/// Puts `type Query { salary: Salary }` and `type Salary { amount: Int }`, which is hidden, into an empty registry.
+/// Puts `type Query { salary: Int }`, which is hidden, into an empty registry.
 fn fill(registry: &mut Registry) -> Result<(), BuildError>
     requires { registry_of registry.old ≡ empty }
 {
     let alloc = registry.allocator();
-    let query = object(alloc, "Query", "salary", "Salary")?.meta(alloc)?;
-    let mut salary = object(alloc, "Salary", "amount", "Int")?.meta(alloc)?;
-    hide(&mut salary);
-    registry.insert_type(query)?;
-    registry.insert_type(salary)?;
     registry.set_query_type("Query")?;
+    let mut query = query(alloc)?.meta(alloc)?;
+    hide(&mut query);
+    registry.insert_type(query)?;
     Ok(())
 }
 
 /// Adds a line with the names of the types that a reader may see.
 fn push_seen(out: &mut String, registry: &Registry, is_staff: bool) -> Result<(), OutOfMemory> {
     out.push_str(if is_staff {
-        "the staff sees"
+        "the staff sees:"
     } else {
-        "a guest sees"
+        "a guest sees:"
     })?;
     for name in registry.find_visible_types(&Reader { is_staff })?.iter() {
         out.push_str(" ")?;
