@@ -1,8 +1,8 @@
 //! Examples of the library, as a caller writes them: each module is one, and the program prints what each answers.
 //!
-//! A function of a caller's crate that hands out a `Scalar`, a `SchemaBuilder`, a `Schema` or a changed `Registry`, which
-//! may hold a test of values, is refused by the gate unless it states a condition: its contract would say nothing of that
-//! test. The examples make and use such a value in one function, and `visible` fills a registry that has to be empty.
+//! A function of a caller's crate that hands out a `Scalar`, a `SchemaBuilder` or a `Schema`, which may hold a test of
+//! values, is refused by the gate: its contract would say nothing of that test. The examples make and use such a value in
+//! one function, and hand out what they ask of it.
 #![tactic(auto)]
 
 mod building;
@@ -10,7 +10,6 @@ mod publishing;
 mod reading;
 mod rules;
 mod scalars;
-mod visible;
 
 use std::process::ExitCode;
 
@@ -43,11 +42,6 @@ fn write_parts(rt: &HostRuntime) -> Option<()> {
         rt,
         "A scalar that tests its values",
         scalars::example(alloc)?.as_str(),
-    )?;
-    write_part(
-        rt,
-        "A registry with hidden parts",
-        visible::example(alloc)?.as_str(),
     )
 }
 
