@@ -7,3 +7,4 @@ pub mod Values
 pub mod Needs
 pub mod Taken
 pub mod Registered
+pub mod Writing

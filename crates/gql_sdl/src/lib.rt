@@ -15,6 +15,7 @@ mod printing;
 mod types;
 mod view;
 mod viewing;
+mod writing;
 
 pub use gql_registry::{
     ConstValue, MetaDirective, MetaDirectiveInvocation, MetaEnumValue, MetaField, MetaInputValue,
@@ -25,3 +26,4 @@ pub use options::SDLExportOptions;
 pub use printing::{directive_sdl, export_sdl, spell};
 pub use view::View;
 pub use viewing::view_of;
+pub use writing::SDLWriter;

@@ -95,7 +95,7 @@ fn has_one_of(ty: &MetaType) -> bool
 
 impl Needs {
     /// What no type needs.
-    fn none() -> Needs
+    pub(crate) fn none() -> Needs
         ensures { result ≡ needs_of [] }
     {
         Needs {
@@ -106,7 +106,7 @@ impl Needs {
     }
 
     /// What is needed when there is one type more.
-    fn with(self, ty: &MetaType) -> Needs
+    pub(crate) fn with(self, ty: &MetaType) -> Needs
         ensures { result ≡ joined self (needs_of (meta_of ty.now ∷ [])) }
     {
         Needs {

@@ -3,7 +3,7 @@
 ghost use Rattle.std.specs.Prelude.{◌≡◌, true, IfOk, replicate, string_bytes};
 ghost use Rattle.gql_text_lexer.specs.Bytes.{space};
 ghost use Rattle.gql_sdl.specs.Values.{options_of};
-ghost use Rattle.gql_sdl_view.specs.Options.{no_options, registry_choice, indent_of, layout_of};
+ghost use Rattle.gql_sdl_view.specs.Options.{no_options, registry_choice, document_choice, indent_of, layout_of};
 ghost use Rattle.gql_sdl_text.specs.Views.{layout_view, choice_view};
 
 use gql_sdl_text::{Choice, Layout};
@@ -153,6 +153,17 @@ impl SDLExportOptions {
             sorted_enum_items: self.sorted_enum_items,
             with_reserved: false,
             with_url: self.include_specified_by,
+        }
+    }
+
+    /// What is taken of a document: all that it says.
+    pub(crate) fn document_choice(self) -> Choice
+        ensures { choice_view result ≡ document_choice (options_of self) }
+    {
+        Choice {
+            with_reserved: true,
+            with_url: true,
+            ..self.choice()
         }
     }
 

@@ -35,7 +35,7 @@ const WHOLE: Choice = Choice {
 };
 
 /// The texts, lent in their order.
-fn lent_texts(alloc: Global, texts: &[String]) -> Result<Vec<&str>, OutOfMemory>
+pub(crate) fn lent_texts(alloc: Global, texts: &[String]) -> Result<Vec<&str>, OutOfMemory>
     ensures { IfOk result (λ lent. texts_in lent.items ≡ map text_of texts.now) }
 {
     let mut lent = Vec::new(alloc);
@@ -213,17 +213,17 @@ fn push_needed(
     Ok(())
 }
 
-/// Writes the definitions of directives that the types need.
-fn push_needed_directives(
+/// Writes the definitions of directives that a registry has and the types need.
+pub(crate) fn push_needed_directives(
     alloc: Global,
     out: &mut String,
     layout: &Layout,
+    needs: Needs,
     registry: &Registry,
 ) -> Result<(), OutOfMemory>
-    ensures { OnOk result (Grows out.old out.new (needed_text (layout_view layout.now)
-        (values_of (types_of registry.now)) (values_of (directives_of registry.now)))) }
+    ensures { (types : List Meta) → needs ≡ needs_of types → OnOk result (Grows out.old out.new
+        (needed_text (layout_view layout.now) types (values_of (directives_of registry.now)))) }
 {
-    let needs = Needs::of(registry.types());
     for directive in registry.directives().values() {
         push_needed(alloc, out, layout, needs, directive)?;
     }
@@ -243,7 +243,8 @@ pub fn export_sdl(
     let layout = options.layout(alloc)?;
     let mut out = String::new(alloc);
     push_shown_types(alloc, &mut out, &layout, options.choice(), registry)?;
-    push_needed_directives(alloc, &mut out, &layout, registry)?;
+    let needs = Needs::of(registry.types());
+    push_needed_directives(alloc, &mut out, &layout, needs, registry)?;
     push_schema_block(
         &mut out,
         &layout,
