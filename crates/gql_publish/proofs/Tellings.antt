@@ -5,11 +5,10 @@ use Rattle.gql_streams.specs.Outside.{Input, Output}
 use Rattle.gql_streams.specs.Reading.{ReadsAll}
 use Rattle.gql_streams.specs.Writing.{Gets, GetsNothing, GetsPrefix, GetsOrFails, IsFlushed}
 use Rattle.gql_text.specs.declared.document.Document.{Document}
-use Rattle.gql_registry.specs.Registry.{Contents}
 use Rattle.gql_sdl_view.specs.Options.{Options}
-use Rattle.gql_publish_document.specs.Published.{IsPublished}
 use Rattle.gql_publish_document.specs.Verdict.{Verdict, HasVerdict}
 use Rattle.gql_publish_document.proofs.OneVerdict.{one_verdict}
+use Rattle.gql_publish_load.specs.Canonical.{IsCanonical}
 use Rattle.gql_sdl.specs.declared.options.SDLExportOptions.{SDLExportOptions}
 use Rattle.gql_publish_words.specs.Words.{AreWordsFor}
 use Rattle.gql_publish_words.specs.declared.request.Request.{Request}
@@ -21,9 +20,9 @@ use Rattle.gql_publish.specs.Troubles.{AreAnswered, IsTextOf, IsTroubleWith, Exp
 use Rattle.gql_publish.specs.declared.program.Trouble.{Trouble}
 use Rattle.gql_publish.specs.declared.program.Trouble.TheVariants as trouble
 
--- what is published of a document is its text
-pub text_is : (o : Options) (bytes text printed : List ℕ) (contents : Contents) → text ≡ printed → (d : Document) × HasVerdict bytes (Ok d) × IsPublished o d printed contents → IsTextOf o text bytes
-text_is o bytes text printed contents f (d, valid, is) = record { document = d; valid = valid; is = f ∙ is.is; read_back = is.read_back; one_view = is.one_view }
+-- the canonical text of a document is its text
+pub text_is : (o : Options) (bytes text : List ℕ) → (d : Document) × HasVerdict bytes (Ok d) × IsCanonical o d text → IsTextOf o text bytes
+text_is o bytes text (d, valid, is) = record { document = d; valid = valid; is = is.is; read_back = is.read_back; one_view = is.one_view }
 
 -- what was read has this verdict, and so no other
 judged : (before now : Input) (bytes : List ℕ) (verdict : Verdict) → ReadsAll before now bytes → length bytes ≤ input_limit → HasVerdict bytes verdict → IsJudged before now verdict

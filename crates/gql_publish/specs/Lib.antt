@@ -27,4 +27,5 @@ pub use Rattle.gql_publish_sample.specs.Sample
 pub use Rattle.gql_publish_load.specs.Errors
 pub use Rattle.gql_publish_load.specs.Loading
 pub use Rattle.gql_publish_load.specs.Publishing
+pub use Rattle.gql_publish_load.specs.Canonical
 pub use Rattle.gql_publish_views.specs.Laws

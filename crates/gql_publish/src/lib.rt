@@ -12,7 +12,8 @@ mod program;
 
 pub use gql_publish_document::verdict_laws;
 pub use gql_publish_load::{
-    PublishError, Published, SDLExportOptions, Schema, SchemaError, Text, What, load, publish,
+    PublishError, Published, SDLExportOptions, Schema, SchemaError, Text, What, canonical_sdl,
+    load, publish,
 };
 pub use gql_publish_sample::{sample_laws, sample_text};
 pub use gql_publish_views::view_laws;

@@ -14,7 +14,7 @@ ghost use Rattle.gql_publish.specs.Endings.{Ending, Publishes, Summarizes, EndsA
 ghost use Rattle.gql_publish.specs.Troubles.{AreAnswered, Explains, ExplainsRequest, ExplainsSample, ExplainsText, IsAnswered, IsTextOf, IsTroubleWith, ReportsError};
 
 use crate::lines::fault_line;
-use gql_publish_load::{PublishError, Published, SDLExportOptions, publish};
+use gql_publish_load::{PublishError, SDLExportOptions, canonical_sdl};
 use gql_publish_sample::{sample_laws, sample_text};
 use gql_publish_words::{Request, WordsError, read_words};
 use gql_streams::{ReadFault, Sink, Source, read_all, write_all};
@@ -87,20 +87,14 @@ fn trouble_of(alloc: Global, error: &PublishError) -> Trouble
     }
 }
 
-/// The text alone: the schema is given back.
-fn text_in(published: Published) -> String
-    ensures { string_bytes result ≡ string_bytes published.text }
-{
-    published.text
-}
-
+/// The canonical text of these bytes.
 fn text_of(alloc: Global, options: SDLExportOptions, bytes: &[u8]) -> Result<String, Trouble>
     ensures text { IfOk result (λ text.
         IsTextOf (options_of options) (string_bytes text) bytes.now) }
     ensures refused { IfErr result (IsTroubleWith bytes.now) }
 {
-    match publish(alloc, bytes, options) {
-        Ok(published) => Ok(text_in(published)),
+    match canonical_sdl(alloc, bytes, options) {
+        Ok(text) => Ok(text),
         Err(error) => Err(trouble_of(alloc, &error)),
     }
 }
@@ -159,8 +153,8 @@ fn valid_text(alloc: Global, options: SDLExportOptions, bytes: &[u8]) -> Result<
     ensures { IfOk result (λ text. (document : Document) × HasVerdict bytes.now (Ok document)
         × (string_bytes text ≡ canonical_text (options_of options) document)) }
 {
-    match publish(alloc, bytes, options) {
-        Ok(published) => Ok(text_in(published)),
+    match canonical_sdl(alloc, bytes, options) {
+        Ok(text) => Ok(text),
         Err(error) => Err(memory_ran_out(&error)),
     }
 }

@@ -1,3 +1,5 @@
+pub mod CanonicalTexts
+pub mod Canonicals
 pub mod FoundUses
 pub mod Loaded
 pub mod Publications

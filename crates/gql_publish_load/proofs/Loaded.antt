@@ -28,7 +28,7 @@ pub clean_document : (bytes : List ℕ) (d : Document) → Spells d bytes → Is
 clean_document bytes d s = subst IsClean (sym s.stands) (is_clean s.tree s.faultless)
 
 -- what a refusal tells more
-refuses_so : (P Q : Refusal → Type 0) → ((r : Refusal) → P r → Q r) → (error : PublishError) → Refuses P error → Refuses Q error
+pub refuses_so : (P Q : Refusal → Type 0) → ((r : Refusal) → P r → Q r) → (error : PublishError) → Refuses P error → Refuses Q error
 refuses_so P Q f (publish_error.NotUtf8 at) h = f _ h
 refuses_so P Q f (publish_error.Syntax at) h = f _ h
 refuses_so P Q f (publish_error.TooDeep at) h = f _ h
@@ -46,7 +46,7 @@ refuses_so P Q f publish_error.OutOfMemory h = tt
 -- ---- bytes that spell a document
 
 module _ (bytes : List ℕ) (d : Document) (spelled : Spells d bytes) where
-  refused_for : (refusal : Refusal) → IsRefusedFor d refusal → HasVerdict bytes (Err refusal)
+  pub refused_for : (refusal : Refusal) → IsRefusedFor d refusal → HasVerdict bytes (Err refusal)
   refused_for (unreadable error) h = absurd h
   refused_for (broken fault) h = (d, spelled, h)
 

@@ -3,3 +3,4 @@ pub mod Taking
 pub mod Attributes
 pub mod Loading
 pub mod Publishing
+pub mod Canonical

@@ -1,8 +1,10 @@
-//! From the bytes of a document to its schema and its canonical text: `load`, `publish`, and why bytes are refused. Each
-//! definition that is written becomes a builder of a type, or the definition of a directive, with one copy of each name.
+//! From the bytes of a document to its schema and its canonical text: `load`, `publish`, `canonical_sdl`, and why bytes are
+//! refused. Each definition that is written becomes a builder of a type, or the definition of a directive, with one copy of
+//! each name.
 #![tactic(auto)]
 
 mod attributes;
+mod canonical;
 mod directives;
 mod enum_values;
 mod error;
@@ -17,6 +19,7 @@ mod types;
 mod uses;
 mod values;
 
+pub use canonical::canonical_sdl;
 pub use error::PublishError;
 pub use gql_check::{Schema, SchemaError};
 pub use gql_sdl::SDLExportOptions;

@@ -161,17 +161,32 @@ fn with_definitions(
     Ok(full)
 }
 
-/// The schema that is built of a document, where nothing but its roots is recorded yet.
-fn finished(builder: SchemaBuilder, document: &WrittenDocument<'_>) -> Result<Schema, PublishError>
-    requires begun { recorded_of builder ≡ begun (query_root document.now)
-        (root_of Mutation document.now) (root_of subscription_root document.now) }
-    requires clean { IsClean document.now }
-    ensures valid { OnOk result (first_fault (document_schema document.now) ≡ None) }
-    ensures recorded { IfOk result (λ schema. recorded_in schema ≡ document_recorded document.now) }
-    ensures refused { IfErr result (Refuses (IsRefusedFor document.now)) }
+/// What is recorded of a document, where nothing but its roots is recorded yet. The document is gone then.
+pub(crate) fn filled(
+    builder: SchemaBuilder,
+    document: WrittenDocument<'_>,
+) -> Result<SchemaBuilder, OutOfMemory>
+    requires begun { recorded_of builder ≡ begun (query_root document)
+        (root_of Mutation document) (root_of subscription_root document) }
+    requires clean { IsClean document }
+    ensures { IfOk result (λ full. recorded_of full ≡ document_recorded document.entry) }
 {
     let subscription = document.root(OperationType::Subscription);
     let full = with_definitions(builder, document.as_slice(), subscription)?;
+    Ok(full)
+}
+
+/// The schema that is built of a document, where nothing but its roots is recorded yet.
+fn finished(builder: SchemaBuilder, document: WrittenDocument<'_>) -> Result<Schema, PublishError>
+    requires begun { recorded_of builder ≡ begun (query_root document)
+        (root_of Mutation document) (root_of subscription_root document) }
+    requires clean { IsClean document }
+    ensures valid { OnOk result (first_fault (document_schema document.entry) ≡ None) }
+    ensures recorded { IfOk result
+        (λ schema. recorded_in schema ≡ document_recorded document.entry) }
+    ensures refused { IfErr result (Refuses (IsRefusedFor document.entry)) }
+{
+    let full = filled(builder, document)?;
     match full.finish() {
         Ok(schema) => Ok(schema),
         Err(error) => Err(PublishError::from(error)),
@@ -187,21 +202,22 @@ fn owned(alloc: Global, name: Option<&str>) -> Result<Option<String>, OutOfMemor
     }
 }
 
-fn query_root<'d>(document: &'d WrittenDocument<'_>) -> &'d str
+pub(crate) fn query_root<'d>(document: &'d WrittenDocument<'_>) -> &'d str
     ensures { result.now ≡ query_root document.now }
 {
     document.root(OperationType::Query).unwrap_or("")
 }
 
-fn load_document(alloc: Global, document: &WrittenDocument<'_>) -> Result<Schema, PublishError>
-    requires { IsClean document.now }
-    ensures valid { OnOk result (first_fault (document_schema document.now) ≡ None) }
-    ensures recorded { IfOk result (λ schema. recorded_in schema ≡ document_recorded document.now) }
-    ensures refused { IfErr result (Refuses (IsRefusedFor document.now)) }
+fn load_document(alloc: Global, document: WrittenDocument<'_>) -> Result<Schema, PublishError>
+    requires { IsClean document }
+    ensures valid { OnOk result (first_fault (document_schema document.entry) ≡ None) }
+    ensures recorded { IfOk result
+        (λ schema. recorded_in schema ≡ document_recorded document.entry) }
+    ensures refused { IfErr result (Refuses (IsRefusedFor document.entry)) }
 {
     let types = SchemaTypes {
         types: IndexMap::new(alloc),
-        query: String::from_str(alloc, query_root(document))?,
+        query: String::from_str(alloc, query_root(&document))?,
         mutation: owned(alloc, document.root(OperationType::Mutation))?,
         subscription: owned(alloc, document.root(OperationType::Subscription))?,
     };
@@ -226,7 +242,7 @@ pub fn load(alloc: Global, bytes: &[u8]) -> Result<Schema, PublishError>
     ensures only { (verdict : Verdict) → HasVerdict bytes.now verdict → Answers verdict result }
 {
     match read_document(alloc, bytes) {
-        Ok(document) => load_document(alloc, &document),
+        Ok(document) => load_document(alloc, document),
         Err(error) => Err(PublishError::from(error)),
     }
 }
