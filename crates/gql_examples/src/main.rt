@@ -10,6 +10,7 @@ mod publishing;
 mod reading;
 mod rules;
 mod scalars;
+mod visible;
 
 use std::process::ExitCode;
 
@@ -42,6 +43,11 @@ fn write_parts(rt: &HostRuntime) -> Option<()> {
         rt,
         "A scalar that tests its values",
         scalars::example(alloc)?.as_str(),
+    )?;
+    write_part(
+        rt,
+        "A registry with hidden parts",
+        visible::example(alloc)?.as_str(),
     )
 }
 

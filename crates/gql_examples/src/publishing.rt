@@ -1,6 +1,6 @@
 //! The canonical SDL of a document.
 
-use gql_publish::{PublishError, SDLExportOptions, publish};
+use gql_publish::{PublishError, SDLExportOptions, canonical_sdl};
 use std::alloc::Global;
 
 const DOCUMENT: &str = r#"
@@ -14,7 +14,7 @@ type Query { node(id: ID!): Node @auth(scope: "staff") }
 /// The canonical SDL of a document, with fields in name order and an indent of two spaces.
 fn canonical(alloc: Global, document: &[u8]) -> Result<String, PublishError> {
     let options = SDLExportOptions::new().sorted_fields().use_space_ident();
-    publish(alloc, document, options).map(|published| published.text)
+    canonical_sdl(alloc, document, options)
 }
 
 pub(crate) fn example(alloc: Global) -> Option<String> {
